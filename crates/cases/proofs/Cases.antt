@@ -1,0 +1,61 @@
+-- The worked cases, by computation.
+-- Assumes nothing.
+use mathlib.Core.Path.{refl}
+use lib.Ieee.{round, ofInt}
+use Rattle.model.specs.Times.{tL, tREF, tINACTIVE, tTO, tOSC, tDAC, milliseconds}
+use Rattle.cases.specs.Starred.{Starred}
+use Rattle.cases.specs.Published.{Frames, Read, Refused, Transfers, Outputs, Received, Waits, Numbers, Values}
+
+pub starred : Starred
+unfolding tL tREF tINACTIVE tTO tOSC tDAC milliseconds round ofInt
+starred =
+    record {
+      calibration-frame = λ level. refl;
+      calibration-ticks = λ level. refl;
+      calibration-times = refl;
+      longest-ticks = refl;
+      longest-time = refl;
+      poll-flags = refl;
+    }
+
+pub frames : Frames
+frames = refl
+
+pub taken : Read
+taken = refl
+
+pub refused : Refused
+refused = refl
+
+pub transfers : Transfers
+transfers = refl
+
+pub outputs : Outputs
+outputs =
+    record {
+      past-the-bytes = refl;
+      just-enough = refl;
+      spi-byte-counts = refl;
+      rule-before-room = refl;
+      nine-parameters = refl;
+      too-much = refl;
+      none-to-read = refl;
+      too-much-to-read = refl;
+      most-to-read = refl;
+      uart-has-no-reset = refl;
+      uart-has-no-poll = refl;
+      uart-has-no-read = refl;
+    }
+
+pub back : Received
+back = refl
+
+pub waits : Waits
+unfolding tL tREF tINACTIVE tTO milliseconds round ofInt
+waits = record { at-a-level = refl; at-most = refl; without-end = refl; no-source = refl; no-times = refl }
+
+pub numbers : Numbers
+numbers = refl
+
+pub values : Values
+values = refl

@@ -1,0 +1,169 @@
+-- Frames that the maker prints (000, section 5; 002, section 2), what the reader refuses beside them, and the numbers of the refusals.
+-- Assumes nothing.
+use Prim.Native.Nat.{ℕ}
+use mathlib.Core.Path.{_≡_}
+use mathlib.Core.Bool.{Bool, true, false}
+use mathlib.Core.List.{List, [], _∷_, map}
+use lib.ListN.{replicate}
+use Rattle.model.specs.declared.Interface.the-variants.{Spi, Uart}
+use Rattle.model.specs.declared.Refusal.{Refusal}
+use Rattle.model.specs.declared.Refusal.the-variants.{Short, Invalid, Unready, Busy, Malformed, Unawaited, ChipError, LowestTimeout, HighestTag, NoLevel, NoBand, CalibrationError}
+use Rattle.model.specs.declared.Settings.{Settings}
+use Rattle.model.specs.declared.Frame.{Frame}
+use Rattle.model.specs.declared.Reading.{Reading}
+use Rattle.model.specs.declared.Reading.the-variants.{Taken}
+use Rattle.model.specs.declared.Written.{Written}
+use Rattle.model.specs.declared.Written.the-variants.{Sent}
+use Rattle.model.specs.declared.Wait.the-variants.{Endless, After}
+use Rattle.model.specs.declared.Waiting.{Waiting}
+use Rattle.model.specs.declared.Timing.{Timing}
+use Rattle.model.specs.Contract.{Ran}
+use Rattle.model.specs.Refusals.{numberOf, valuesOf}
+use Rattle.model.specs.Frames.{Command, idn, protocolSelect, sendRecv, idle, echo, frame, Transfer, send, reset, poll, read, bytes, write, received, readCommand, noFrame}
+use Rattle.model.specs.Times.{timesOf, waitOf}
+use Rattle.cases.specs.Starred.{calibrating, longest, ms}
+
+-- ---- frames
+
+-- Active to Hibernate, woken by a low pulse on IRQ_IN
+abbrev pub hibernate : Settings
+hibernate =
+    record {
+      source = 0x08;
+      enter = record { first = 0x04; second = 0x00 };
+      wake = record { first = 0x04; second = 0x00 };
+      leave = record { first = 0x18; second = 0x00 };
+      period = 0;
+      osc = 0;
+      dac = 0;
+      low = 0;
+      high = 0;
+      swing = 0;
+      sleep = 0;
+    }
+
+-- the same without a source
+abbrev pub sourceless : Settings
+sourceless =
+    record {
+      source = 0xC0;
+      enter = hibernate .enter;
+      wake = hibernate .wake;
+      leave = hibernate .leave;
+      period = 0;
+      osc = 0;
+      dac = 0;
+      low = 0;
+      high = 0;
+      swing = 0;
+      sleep = 0;
+    }
+
+abbrev pub commands : List Command
+commands =
+    idn ∷ protocolSelect 0x00 (0x00 ∷ []) ∷ protocolSelect 0x01 (0x05 ∷ []) ∷ protocolSelect 0x04 (0x51 ∷ []) ∷
+    sendRecv (0x26 ∷ 0x01 ∷ 0x00 ∷ []) ∷ sendRecv [] ∷ idle hibernate ∷ echo ∷ []
+
+abbrev pub Frames : Type 0
+Frames =
+    map frame commands ≡
+    (0x01 ∷ 0x00 ∷ []) ∷
+    (0x02 ∷ 0x02 ∷ 0x00 ∷ 0x00 ∷ []) ∷
+    (0x02 ∷ 0x02 ∷ 0x01 ∷ 0x05 ∷ []) ∷
+    (0x02 ∷ 0x02 ∷ 0x04 ∷ 0x51 ∷ []) ∷
+    (0x04 ∷ 0x03 ∷ 0x26 ∷ 0x01 ∷ 0x00 ∷ []) ∷
+    (0x04 ∷ 0x00 ∷ []) ∷
+    (0x07 ∷ 0x0E ∷ 0x08 ∷ 0x04 ∷ 0x00 ∷ 0x04 ∷ 0x00 ∷ 0x18 ∷ 0x00 ∷ 0x00 ∷ 0x00 ∷ 0x00 ∷ 0x00 ∷ 0x00 ∷ 0x00 ∷ 0x00 ∷ []) ∷
+    (0x55 ∷ []) ∷
+    []
+
+-- ---- the reader
+
+abbrev pub isTaken : Reading → Bool
+isTaken (Taken f) = true
+isTaken (Reading.Refused k) = false
+
+-- the data of the timer's Idle command of 002, with a WU source, DacDataL and DacDataH
+abbrev pub timer : ℕ → ℕ → ℕ → List ℕ
+timer source low high = source ∷ 0x21 ∷ 0x00 ∷ 0x38 ∷ 0x00 ∷ 0x18 ∷ 0x00 ∷ 0x60 ∷ 0x60 ∷ 0x00 ∷ low ∷ high ∷ 0x00 ∷ 0x08 ∷ []
+
+abbrev pub selecting : ℕ → ℕ → List ℕ
+selecting n protocol = 0x02 ∷ n ∷ protocol ∷ []
+
+abbrev pub Read : Type 0
+Read =
+    map (λ (xs : List ℕ). isTaken (readCommand xs)) (
+    -- each source by itself, and the prescaler's bits
+    (0x07 ∷ 0x0E ∷ timer 0x01 0 0) ∷ (0x07 ∷ 0x0E ∷ timer 0x02 0 0) ∷ (0x07 ∷ 0x0E ∷ timer 0x08 0 0) ∷ (0x07 ∷ 0x0E ∷ timer 0x10 0 0) ∷
+    (0x07 ∷ 0x0E ∷ timer 0xC1 0 0) ∷ (0x07 ∷ 0x0E ∷ timer 0xDB 0 0) ∷
+    -- DacDataL at most DacDataH, or no tag among the sources
+    (0x07 ∷ 0x0E ∷ timer 0x02 0x64 0x64) ∷ (0x07 ∷ 0x0E ∷ timer 0x09 0x65 0x64) ∷
+    (0x02 ∷ 0x02 ∷ 0x04 ∷ 0x00 ∷ []) ∷ (0x02 ∷ 0x09 ∷ 0x00 ∷ replicate 8 0xFF) ∷ (0x04 ∷ 0xFF ∷ replicate 255 0x55) ∷ [])
+    ≡ replicate 11 true
+
+abbrev pub Refused : Type 0
+Refused =
+    map readCommand (
+    [] ∷ (0x01 ∷ []) ∷ (0x00 ∷ []) ∷ (0x01 ∷ 0x01 ∷ 0x00 ∷ []) ∷ (0x01 ∷ 0x00 ∷ 0x00 ∷ []) ∷ (0x55 ∷ 0x00 ∷ []) ∷ (0x55 ∷ 0x55 ∷ []) ∷
+    (0x03 ∷ 0x00 ∷ []) ∷ (0x05 ∷ 0x00 ∷ []) ∷ (0x06 ∷ 0x00 ∷ []) ∷ (0x08 ∷ 0x03 ∷ 0x69 ∷ 0x01 ∷ 0x00 ∷ []) ∷
+    -- no parameter, nine, protocol 5
+    (0x02 ∷ 0x00 ∷ []) ∷ (0x02 ∷ 0x01 ∷ 0x01 ∷ []) ∷ (0x02 ∷ 0x0A ∷ 0x01 ∷ replicate 9 0x00) ∷ (0x02 ∷ 0x02 ∷ 0x05 ∷ 0x00 ∷ []) ∷
+    -- n is not the rest
+    (0x04 ∷ 0x03 ∷ 0x26 ∷ 0x01 ∷ []) ∷ (0x04 ∷ 0x02 ∷ 0x26 ∷ 0x01 ∷ 0x00 ∷ []) ∷
+    -- bits 2 and 5, no source, DacDataL above DacDataH
+    (0x07 ∷ 0x0E ∷ timer 0x05 0 0) ∷ (0x07 ∷ 0x0E ∷ timer 0x21 0 0) ∷ (0x07 ∷ 0x0E ∷ timer 0xC0 0 0) ∷ (0x07 ∷ 0x0E ∷ timer 0x02 0x65 0x64) ∷
+    -- 002 prints this one a byte short
+    (0x07 ∷ 0x0E ∷ 0x08 ∷ 0x04 ∷ 0x00 ∷ 0x04 ∷ 0x00 ∷ 0x18 ∷ 0x00 ∷ 0x00 ∷ 0x00 ∷ 0x00 ∷ 0x00 ∷ 0x00 ∷ 0x00 ∷ []) ∷
+    (0x07 ∷ 0x0D ∷ replicate 13 0x01) ∷ (0x07 ∷ 0x0F ∷ replicate 15 0x01) ∷ (0x04 ∷ 256 ∷ replicate 256 0x00) ∷ [])
+    ≡ replicate 25 noFrame
+
+-- ---- transfers
+
+abbrev pub Transfers : Type 0
+Transfers =
+    map (bytes Spi) (send echo ∷ reset ∷ poll ∷ read 3 ∷ []) ≡
+    (0x00 ∷ 0x55 ∷ []) ∷ (0x01 ∷ []) ∷ (0x03 ∷ 0x03 ∷ []) ∷ (0x02 ∷ 0x00 ∷ 0x00 ∷ 0x00 ∷ []) ∷ []
+
+-- an answer, and the output after it
+abbrev pub ran : Written → List ℕ → Ran Written
+ran a xs = record { answer = a; bytes = xs }
+
+pub record Outputs : Type 0 where
+  pub past-the-bytes : write Uart (send idn) (9 ∷ 9 ∷ 9 ∷ []) ≡ ran (Sent 2) (0x01 ∷ 0x00 ∷ 9 ∷ [])
+  pub just-enough : write Spi (send idn) (9 ∷ 9 ∷ 9 ∷ []) ≡ ran (Sent 3) (0x00 ∷ 0x01 ∷ 0x00 ∷ [])
+  pub spi-byte-counts : write Spi (send idn) (9 ∷ 9 ∷ []) ≡ ran (Written.Refused Short) (9 ∷ 9 ∷ [])
+  pub rule-before-room : write Uart (send (protocolSelect 5 (0 ∷ []))) [] ≡ ran (Written.Refused Invalid) []
+  pub nine-parameters : write Uart (send (protocolSelect 1 (replicate 9 0))) (9 ∷ []) ≡ ran (Written.Refused Invalid) (9 ∷ [])
+  pub too-much : write Uart (send (sendRecv (replicate 256 0))) [] ≡ ran (Written.Refused Invalid) []
+  pub none-to-read : write Spi (read 0) [] ≡ ran (Written.Refused Invalid) []
+  pub too-much-to-read : write Spi (read 258) [] ≡ ran (Written.Refused Invalid) []
+  pub most-to-read : write Spi (read 257) [] ≡ ran (Written.Refused Short) []
+  pub uart-has-no-reset : write Uart reset (9 ∷ []) ≡ ran (Written.Refused Invalid) (9 ∷ [])
+  pub uart-has-no-poll : write Uart poll (9 ∷ []) ≡ ran (Written.Refused Invalid) (9 ∷ [])
+  pub uart-has-no-read : write Uart (read 1) (9 ∷ []) ≡ ran (Written.Refused Invalid) (9 ∷ [])
+
+abbrev pub Received : Type 0
+Received = map received ((0x00 ∷ 0x08 ∷ []) ∷ (0x00 ∷ []) ∷ [] ∷ []) ≡ (0x08 ∷ []) ∷ [] ∷ [] ∷ []
+
+-- ---- waiting
+
+pub record Waits : Type 0 where
+  pub at-a-level : waitOf (calibrating 0xFC) ≡ Waiting.Known (After (ms 528))
+  pub at-most : waitOf longest ≡ Waiting.Known (After (ms 4194304))
+  pub without-end : waitOf hibernate ≡ Waiting.Known Endless
+  pub no-source : waitOf sourceless ≡ Waiting.Refused Invalid
+  pub no-times : timesOf sourceless ≡ Timing.Refused Invalid
+
+-- ---- the numbers of the refusals
+
+abbrev pub Numbers : Type 0
+Numbers =
+    map numberOf (
+    Short ∷ Invalid ∷ Unready ∷ Busy ∷ Malformed ∷ Unawaited ∷ ChipError 0x87 ∷ LowestTimeout 1 ∷ HighestTag 2 ∷ NoLevel 8 ∷ NoBand ∷ CalibrationError 0x82 3 ∷ [])
+    ≡ 1 ∷ 2 ∷ 3 ∷ 4 ∷ 5 ∷ 6 ∷ 7 ∷ 8 ∷ 9 ∷ 10 ∷ 11 ∷ 12 ∷ []
+
+abbrev pub Values : Type 0
+Values =
+    map valuesOf (
+    Short ∷ Invalid ∷ Unready ∷ Busy ∷ Malformed ∷ Unawaited ∷ ChipError 0x87 ∷ LowestTimeout 1 ∷ HighestTag 2 ∷ NoLevel 8 ∷ NoBand ∷ CalibrationError 0x82 3 ∷ [])
+    ≡ [] ∷ [] ∷ [] ∷ [] ∷ [] ∷ [] ∷ (0x87 ∷ []) ∷ (1 ∷ []) ∷ (2 ∷ []) ∷ (8 ∷ []) ∷ [] ∷ (0x82 ∷ 3 ∷ []) ∷ []

@@ -1,0 +1,4 @@
+pub mod Words
+pub mod Frames
+pub mod Exactness
+pub mod Outcomes

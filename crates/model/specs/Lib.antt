@@ -1,0 +1,6 @@
+pub mod Words
+pub mod Contract
+pub mod Refusals
+pub mod Frames
+pub mod Times
+pub mod Claims
