@@ -4,6 +4,7 @@ use mathlib.Core.Path.{refl}
 use lib.Ieee.{round, ofInt}
 use Rattle.model.specs.Times.{tL, tREF, tINACTIVE, tTO, tOSC, tDAC, milliseconds}
 use Rattle.cases.specs.Starred.{Starred}
+use Rattle.cases.specs.Replies.{Codes, Good-replies, Bad-replies, Pieces, Places}
 use Rattle.cases.specs.Published.{Frames, Read, Refused, Transfers, Outputs, Received, Waits, Numbers, Values}
 
 pub starred : Starred
@@ -16,6 +17,8 @@ starred =
       longest-ticks = refl;
       longest-time = refl;
       poll-flags = refl;
+      awaited-idle = refl;
+      awaited-send-recv = refl;
     }
 
 pub frames : Frames
@@ -59,3 +62,33 @@ numbers = refl
 
 pub values : Values
 values = refl
+
+pub codes : Codes
+codes = refl
+
+pub good : Good-replies
+good = refl
+
+pub bad : Bad-replies
+bad = refl
+
+pub pieces : Pieces
+pieces =
+    record {
+      nothing = refl;
+      short-room = refl;
+      whole = refl;
+      without-data = refl;
+      one = refl;
+      two = refl;
+      three = refl;
+      four = refl;
+      late = refl;
+      event = refl;
+      error = refl;
+      full = refl;
+      strange = refl;
+    }
+
+pub places : Places
+places = refl

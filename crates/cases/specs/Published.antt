@@ -25,11 +25,11 @@ use Rattle.cases.specs.Starred.{calibrating, longest, ms}
 
 -- ---- frames
 
--- Active to Hibernate, woken by a low pulse on IRQ_IN
-abbrev pub hibernate : Settings
-hibernate =
+-- Active to Hibernate, woken by the sources given
+abbrev pub sleeping : ℕ → Settings
+sleeping source =
     record {
-      source = 0x08;
+      source = source;
       enter = record { first = 0x04; second = 0x00 };
       wake = record { first = 0x04; second = 0x00 };
       leave = record { first = 0x18; second = 0x00 };
@@ -42,22 +42,12 @@ hibernate =
       sleep = 0;
     }
 
--- the same without a source
+-- by a low pulse on IRQ_IN; and by nothing at all
+abbrev pub hibernate : Settings
+hibernate = sleeping 0x08
+
 abbrev pub sourceless : Settings
-sourceless =
-    record {
-      source = 0xC0;
-      enter = hibernate .enter;
-      wake = hibernate .wake;
-      leave = hibernate .leave;
-      period = 0;
-      osc = 0;
-      dac = 0;
-      low = 0;
-      high = 0;
-      swing = 0;
-      sleep = 0;
-    }
+sourceless = sleeping 0xC0
 
 abbrev pub commands : List Command
 commands =

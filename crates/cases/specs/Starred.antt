@@ -8,7 +8,10 @@ use lib.IntN.{pos}
 use lib.Ieee.{Float, binary32, ofInt}
 use Rattle.model.specs.declared.Settings.{Settings}
 use Rattle.model.specs.declared.Flags.{Flags}
+use Rattle.model.specs.declared.Awaited.the-variants.{SendRecv, Idle}
+use Rattle.model.specs.declared.Verdict.the-variants.{Good, Error, Malformed}
 use Rattle.model.specs.Frames.{idle, frame, flags}
+use Rattle.model.specs.Replies.{meaning, reply}
 use Rattle.model.specs.Times.{ticks, milliseconds}
 
 -- the settings of a calibration's Idle command at a level
@@ -59,3 +62,9 @@ pub record Starred : Type 0 where
   pub longest-ticks : ticks longest .timeout ≡ 134217728
   pub longest-time : milliseconds 134217728 ≡ ms 4194304
   pub poll-flags : map flags (0x08 ∷ 0xF3 ∷ []) ≡ record { read = true; send = false } ∷ record { read = false; send = false } ∷ []
+  pub awaited-idle :
+      map (reply (Idle 0x03)) ((0x00 ∷ 0x01 ∷ 0x02 ∷ []) ∷ (0x00 ∷ 0x01 ∷ 0x08 ∷ []) ∷ []) ≡
+      meaning Good (0x02 ∷ []) 3 ∷ meaning Malformed [] 3 ∷ []
+  pub awaited-send-recv :
+      map (reply SendRecv) ((0x8D ∷ 0x00 ∷ []) ∷ (0x8D ∷ 0x01 ∷ []) ∷ (0x80 ∷ 0x00 ∷ []) ∷ []) ≡
+      meaning (Error 0x8D) [] 2 ∷ meaning Malformed [] 2 ∷ meaning Good [] 2 ∷ []

@@ -1,22 +1,13 @@
 // Writers of the five commands. Over SPI the control byte 00 stands before a frame.
-ghost use mathlib.Core.Path.{_≡_};
 ghost use mathlib.Core.List.{_++_};
 ghost use Prim.Native.Nat.{_+_, _≤_};
-ghost use lib.ListN.{length, take, drop};
+ghost use lib.ListN.{length};
 ghost use Rattle.model.specs.Contract.{Is};
 ghost use Rattle.model.specs.Frames.{laid, wrapped, Command, Transfer, Writes};
 use model::Interface;
 use model::Refusal;
 use model::Settings;
 use model::Written;
-
-// Copies src into out from index at.
-fn copy_at(src: &[u8], out: &mut [u8], at: usize)
-    requires { ⌜ at + length (now src) ≤ length (now out) ⌝ }
-    ensures { λ _. ⌜ now (out .exit) ≡ take at (now (out .entry)) ++ now (src .entry) ++ drop (at + length (now (src .entry))) (now (out .entry)) ⌝ }
-{
-    bytes::copy(src, &mut out[at..]);
-}
 
 // Lays three parts one behind the other at the front of the output, where they fit.
 pub(crate) fn lay(control: &[u8], head: &[u8], body: &[u8], out: &mut [u8]) -> Written
@@ -27,9 +18,9 @@ pub(crate) fn lay(control: &[u8], head: &[u8], body: &[u8], out: &mut [u8]) -> W
     if out.len() < count {
         return Written::Refused(Refusal::Short);
     }
-    copy_at(control, out, 0);
-    copy_at(head, out, control.len());
-    copy_at(body, out, control.len() + head.len());
+    buffers::copy_at(control, out, 0);
+    buffers::copy_at(head, out, control.len());
+    buffers::copy_at(body, out, control.len() + head.len());
     Written::Sent(count)
 }
 

@@ -1,4 +1,7 @@
 pub mod Words
 pub mod Frames
+pub mod Table
+pub mod Cutting
+pub mod Feeding
 pub mod Exactness
 pub mod Outcomes

@@ -17,12 +17,15 @@ one-outcome m r r′ exit exit′ p q = (p .answer ∙ sym (q .answer), p .bytes
 pub one-each : OneEach
 one-each =
     record {
+      pastes = λ buffer src at. one-answer _;
       writes = λ i t out. one-outcome _;
       reads = λ xs. one-answer _;
       receives = λ xs. one-answer _;
       flagged = λ b. one-answer _;
       allows = λ s. one-answer _;
       prescales = λ w. one-answer _;
+      feeds = λ p piece room. one-outcome _;
+      chooses = λ piece room place. one-answer _;
       timed = λ s. one-answer _;
       waits = λ s. one-answer _;
     }

@@ -1,9 +1,10 @@
 -- The statements of the promises, as named types. proofs/ proves each.
 -- Assumes nothing.
-use Prim.Native.Nat.{ℕ, _≤_}
+use Prim.Native.Nat.{ℕ, suc, _+_, _≤_, _<_}
 use mathlib.Core.Path.{_≡_}
 use mathlib.Core.Bool.{Bool, true}
-use mathlib.Core.List.{List}
+use mathlib.Core.List.{List, [], _∷_, _++_}
+use lib.ListN.{length}
 use Rattle.model.specs.declared.Interface.{Interface}
 use Rattle.model.specs.declared.Refusal.{Refusal}
 use Rattle.model.specs.declared.Refusal.the-variants.{Invalid}
@@ -12,9 +13,16 @@ use Rattle.model.specs.declared.Frame.{Frame}
 use Rattle.model.specs.declared.Reading.{Reading}
 use Rattle.model.specs.declared.Reading.the-variants.{Taken}
 use Rattle.model.specs.declared.Written.{Written}
-use Rattle.model.specs.Words.{Bytes}
-use Rattle.model.specs.Contract.{OneAnswer, OneOutcome}
+use Rattle.model.specs.declared.Awaited.{Awaited}
+use Rattle.model.specs.declared.Progress.{Progress}
+use Rattle.model.specs.declared.Verdict.{Verdict}
+use Rattle.model.specs.declared.Verdict.the-variants.{More, Good, Error, Malformed, NoRoom}
+use Rattle.model.specs.declared.Place.{Place}
+use Rattle.model.specs.declared.Fed.{Fed}
+use Rattle.model.specs.Words.{Pastes, Bytes, concat}
+use Rattle.model.specs.Contract.{Ran, OneAnswer, OneOutcome}
 use Rattle.model.specs.Frames.{Command, idleData, frame, allowed, Transfer, write, readCommand, command, Writes, Reads, Receives, Flagged, Allows, Prescales}
+use Rattle.model.specs.Replies.{leastRoom, Reply, Meaning, meaning, reply, begun, feed, dataOf, Feeds, Chooses}
 use Rattle.model.specs.Times.{ticks, times, tTO, exactly, Timed, Waits}
 
 -- ---- demand 2: frames
@@ -34,6 +42,76 @@ RefusesElse = (xs : List ℕ) → ((c : Command) → allowed c ≡ true → fram
 -- a refused write leaves the output as it was
 abbrev pub WritesNothing : Type 0
 WritesNothing = (i : Interface) (t : Transfer) (out : List ℕ) (k : Refusal) → write i t out .answer ≡ Written.Refused k → write i t out .bytes ≡ out
+
+-- ---- demand 2: replies
+
+-- some reply to the command begins with the bytes, and is longer
+abbrev pub GoesOn : Awaited → List ℕ → Type 0
+GoesOn a xs = (b : ℕ) × (bs : List ℕ) × (v : Verdict) × (payload : List ℕ) × Reply a (xs ++ b ∷ bs) v payload
+
+-- the bytes begin with a reply, of the verdict and the data given, that takes so many bytes
+abbrev pub Begins : Awaited → List ℕ → Verdict → List ℕ → ℕ → Type 0
+Begins a xs v payload used = (ys : List ℕ) × (zs : List ℕ) × (xs ≡ ys ++ zs) × (used ≡ length ys) × Reply a ys v payload
+
+-- malformed at the first byte that no reply to the awaited command has there after the bytes before it
+abbrev pub Breaks : Awaited → List ℕ → ℕ → Type 0
+Breaks a xs used =
+    (ys : List ℕ) × (b : ℕ) × (zs : List ℕ) × (xs ≡ ys ++ b ∷ zs) × (used ≡ suc (length ys)) × GoesOn a ys
+    × ((ws : List ℕ) (v : Verdict) (payload : List ℕ) → Reply a (ys ++ b ∷ ws) v payload → ⊥)
+
+abbrev pub MeansBy : Verdict → Awaited → List ℕ → List ℕ → ℕ → Type 0
+MeansBy More a xs payload used = GoesOn a xs × (used ≡ length xs)
+MeansBy Good a xs payload used = Begins a xs Good payload used
+MeansBy (Error code) a xs payload used = Begins a xs (Error code) payload used
+MeansBy Malformed a xs payload used = Breaks a xs used
+MeansBy NoRoom a xs payload used = ⊥
+
+-- what the table says of bytes is right by the replies, for every command and all bytes
+abbrev pub Tabled : Type 0
+Tabled = (a : Awaited) (xs : List ℕ) → MeansBy (reply a xs .verdict) a xs (reply a xs .payload) (reply a xs .used)
+
+-- the first of two where the verdict is More, otherwise the second
+abbrev pub ifMore : {A : Type 0} → Verdict → A → A → A
+ifMore More x y = x
+ifMore Good x y = y
+ifMore (Error code) x y = y
+ifMore Malformed x y = y
+ifMore NoRoom x y = y
+
+-- a piece was fed, with k bytes consumed before it: the next is fed where it answers More, and otherwise its answer is the end
+abbrev pub onward : Ran Fed → List ℕ → ℕ → (Progress → List ℕ → ℕ → Meaning) → Meaning
+onward m piece k go =
+    ifMore (m .answer .verdict)
+    (go (m .answer .progress) (m .bytes) (k + m .answer .used))
+    (meaning (m .answer .verdict) (dataOf piece (m .bytes) (m .answer .place)) (k + m .answer .used))
+
+-- the pieces are fed in order with one room, until one answers another verdict than More
+abbrev pub feeds : Progress → List (List ℕ) → List ℕ → ℕ → Meaning
+feeds p [] room k = meaning More [] k
+feeds p (xs ∷ pieces) room k = onward (feed p xs room) xs k (λ p′ room′ k′. feeds p′ pieces room′ k′)
+
+-- under any cutting the verdict, the data bytes and the number of bytes consumed in all are those that the table says of the whole
+abbrev pub Cutting : Type 0
+Cutting =
+    (a : Awaited) (pieces : List (List ℕ)) (room : List ℕ) → leastRoom ≤ length room → Bytes (concat pieces) →
+    feeds (begun a) pieces room 0 ≡ reply a (concat pieces)
+
+-- the reply ended with a byte of this very piece, and the next would be read from its start
+pub record Ended (piece : List ℕ) (p : Progress) (r : Fed) : Type 0 where
+  pub some : 0 < r .used
+  pub no-more : r .used ≤ length piece
+  pub anew : r .progress ≡ begun (p .awaited)
+
+-- a piece that answers More is consumed whole; a malformed one and the chip's error write nothing; a room too short changes nothing
+abbrev pub TakesBy : Verdict → List ℕ → List ℕ → Progress → Ran Fed → Type 0
+TakesBy More piece room p m = m .answer .used ≡ length piece
+TakesBy Good piece room p m = Ended piece p (m .answer)
+TakesBy (Error code) piece room p m = Ended piece p (m .answer) × (m .bytes ≡ room)
+TakesBy Malformed piece room p m = Ended piece p (m .answer) × (m .bytes ≡ room)
+TakesBy NoRoom piece room p m = (m .answer .used ≡ 0) × (m .answer .progress ≡ p) × (m .bytes ≡ room)
+
+abbrev pub Takes : Type 0
+Takes = (p : Progress) (piece room : List ℕ) → TakesBy (feed p piece room .answer .verdict) piece room p (feed p piece room)
 
 -- ---- demand 2: waiting times
 
@@ -56,11 +134,14 @@ Greatest = (s : Settings) → Bytes (idleData s) → tTO s ≤ 134217728
 -- ---- any two outcomes that a contract allows coincide
 
 pub record OneEach : Type 0 where
+  pub pastes : (buffer src : List ℕ) (at : ℕ) → OneAnswer (Pastes buffer src at)
   pub writes : (i : Interface) (t : Transfer) (out : List ℕ) → OneOutcome (Writes i t out)
   pub reads : (xs : List ℕ) → OneAnswer (Reads xs)
   pub receives : (xs : List ℕ) → OneAnswer (Receives xs)
   pub flagged : (b : ℕ) → OneAnswer (Flagged b)
   pub allows : (s : Settings) → OneAnswer (Allows s)
   pub prescales : (w : ℕ) → OneAnswer (Prescales w)
+  pub feeds : (p : Progress) (piece room : List ℕ) → OneOutcome (Feeds p piece room)
+  pub chooses : (piece room : List ℕ) (place : Place) → OneAnswer (Chooses piece room place)
   pub timed : (s : Settings) → OneAnswer (Timed s)
   pub waits : (s : Settings) → OneAnswer (Waits s)

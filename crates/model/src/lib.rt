@@ -125,3 +125,71 @@ pub enum Waiting {
     Known(Wait),
     Refused(Refusal),
 }
+
+// The command whose reply is awaited, with what its reply and its effect depend on.
+pub enum Awaited {
+    Idn,
+    ProtocolSelect { protocol: u8 },
+    SendRecv,
+    Idle { source: u8 },
+    Echo,
+}
+
+// How much of a reply was read.
+pub enum Phase {
+    // nothing
+    Begun,
+    // an error code: 00 comes
+    Failed { code: u8 },
+    // the result code: the length comes
+    Counting,
+    // 00 01 of an Idle: the event comes
+    Waking,
+    // the length, and some of the data, which stand at the front of the room
+    Data { have: u8, count: u8 },
+}
+
+// Where reading stands between two pieces.
+pub struct Progress {
+    pub awaited: Awaited,
+    pub phase: Phase,
+}
+
+// What a first byte is to the awaited command: a whole reply, the result code of a good one, an error code, or nothing.
+pub enum First {
+    Whole,
+    Result,
+    Fault,
+    Unknown,
+}
+
+// What the byte behind a result code is: the number of data bytes, the 01 before an event, or nothing.
+pub enum Second {
+    Count,
+    Event,
+    Wrong,
+}
+
+// What a piece came to.
+pub enum Verdict {
+    More,
+    Good,
+    Error { code: u8 },
+    Malformed,
+    NoRoom,
+}
+
+// Where the data of a reply stand: in the piece just given, or at the front of the room.
+pub enum Place {
+    Nowhere,
+    Piece { start: usize, count: usize },
+    Room { count: usize },
+}
+
+// The answer to a piece: the verdict, how many of its bytes were consumed, where the data are, and where reading stands.
+pub struct Fed {
+    pub verdict: Verdict,
+    pub used: usize,
+    pub place: Place,
+    pub progress: Progress,
+}

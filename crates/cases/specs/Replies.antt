@@ -1,0 +1,110 @@
+-- Replies of the maker's papers and of document 01, what is malformed beside them, and pieces that are cut.
+-- Assumes nothing.
+use Prim.Native.Nat.{ℕ, zero, suc}
+use mathlib.Core.Path.{_≡_}
+use mathlib.Core.Bool.{Bool, true, false}
+use mathlib.Core.List.{List, [], _∷_, _++_, map}
+use lib.ListN.{replicate}
+use Rattle.model.specs.declared.Awaited.{Awaited}
+use Rattle.model.specs.declared.Awaited.the-variants.{Idn, ProtocolSelect, SendRecv, Idle, Echo}
+use Rattle.model.specs.declared.Phase.the-variants.{Begun, Failed, Counting, Waking, Data}
+use Rattle.model.specs.declared.Verdict.the-variants.{More, Good, Error, Malformed, NoRoom}
+use Rattle.model.specs.declared.Place.the-variants.{Nowhere, Piece, Room}
+use Rattle.model.specs.declared.Fed.{Fed}
+use Rattle.model.specs.Words.{pick}
+use Rattle.model.specs.Contract.{Ran}
+use Rattle.model.specs.Replies.{leastRoom, isError, Meaning, meaning, reply, at, begun, feed, dataOf}
+
+-- ---- the error codes
+
+-- the numbers below n that pass a test, the least first
+abbrev pub those : (ℕ → Bool) → ℕ → List ℕ → List ℕ
+those f zero xs = xs
+those f (suc n) xs = those f n (pick (f n) (n ∷ xs) xs)
+
+abbrev pub Codes : Type 0
+Codes = those isError 256 [] ≡ 0x82 ∷ 0x83 ∷ 0x85 ∷ 0x86 ∷ 0x87 ∷ 0x88 ∷ 0x89 ∷ 0x8A ∷ 0x8B ∷ 0x8C ∷ 0x8D ∷ 0x8E ∷ 0x8F ∷ []
+
+-- ---- the table
+
+-- 'NFC FS2JAST4' and a CRC, as 000 prints them
+abbrev pub name : List ℕ
+name = 0x4E ∷ 0x46 ∷ 0x43 ∷ 0x20 ∷ 0x46 ∷ 0x53 ∷ 0x32 ∷ 0x4A ∷ 0x41 ∷ 0x53 ∷ 0x54 ∷ 0x34 ∷ 0x00 ∷ 0x2A ∷ 0xCE ∷ []
+
+abbrev pub Good-replies : Type 0
+Good-replies =
+    reply Idn (0x00 ∷ 0x0F ∷ name) ∷ reply (ProtocolSelect 1) (0x00 ∷ 0x00 ∷ []) ∷ reply SendRecv (0x80 ∷ 0x00 ∷ []) ∷
+    reply SendRecv (0x80 ∷ 0x05 ∷ 0x44 ∷ 0x00 ∷ 0x28 ∷ 0x00 ∷ 0x55 ∷ []) ∷ reply (Idle 0x03) (0x00 ∷ 0x01 ∷ 0x01 ∷ []) ∷
+    reply (Idle 0x03) (0x00 ∷ 0x01 ∷ 0x02 ∷ []) ∷ reply (Idle 0x08) (0x00 ∷ 0x01 ∷ 0x08 ∷ []) ∷ reply (Idle 0xD0) (0x00 ∷ 0x01 ∷ 0x10 ∷ []) ∷
+    -- bytes after the last are not looked at
+    reply Echo (0x55 ∷ 0x55 ∷ []) ∷ reply (Idle 0x03) (0x82 ∷ 0x00 ∷ 0x99 ∷ []) ∷ reply Idn (0x8F ∷ 0x00 ∷ []) ∷ []
+    ≡ meaning Good name 17 ∷ meaning Good [] 2 ∷ meaning Good [] 2 ∷
+    meaning Good (0x44 ∷ 0x00 ∷ 0x28 ∷ 0x00 ∷ 0x55 ∷ []) 7 ∷ meaning Good (0x01 ∷ []) 3 ∷
+    meaning Good (0x02 ∷ []) 3 ∷ meaning Good (0x08 ∷ []) 3 ∷ meaning Good (0x10 ∷ []) 3 ∷
+    meaning Good [] 1 ∷ meaning (Error 0x82) [] 2 ∷ meaning (Error 0x8F) [] 2 ∷ []
+
+-- malformed at the byte of an index
+abbrev pub malformed : ℕ → Meaning
+malformed i = meaning Malformed [] (suc i)
+
+abbrev pub Bad-replies : Type 0
+Bad-replies =
+    reply Idn (0x55 ∷ []) ∷ reply (ProtocolSelect 1) (0x80 ∷ 0x00 ∷ []) ∷ reply SendRecv (0x00 ∷ 0x00 ∷ []) ∷ reply SendRecv (0x90 ∷ 0x00 ∷ []) ∷
+    reply SendRecv (0x84 ∷ 0x00 ∷ []) ∷ reply Echo (0x82 ∷ 0x00 ∷ []) ∷ reply Echo (0x00 ∷ []) ∷
+    -- without a source no event can come
+    reply (Idle 0xC0) (0x00 ∷ 0x01 ∷ 0x01 ∷ []) ∷
+    reply Idn (0x00 ∷ 0x0E ∷ []) ∷ reply (ProtocolSelect 1) (0x00 ∷ 0x01 ∷ []) ∷ reply (Idle 0x03) (0x00 ∷ 0x02 ∷ []) ∷
+    reply SendRecv (0x8D ∷ 0x01 ∷ []) ∷ reply Idn (0x82 ∷ 0x82 ∷ []) ∷
+    reply (Idle 0x03) (0x00 ∷ 0x01 ∷ 0x08 ∷ []) ∷ reply (Idle 0x01) (0x00 ∷ 0x01 ∷ 0x02 ∷ []) ∷ reply (Idle 0x1B) (0x00 ∷ 0x01 ∷ 0x03 ∷ []) ∷
+    reply (Idle 0x1B) (0x00 ∷ 0x01 ∷ 0x04 ∷ []) ∷ []
+    ≡ malformed 0 ∷ malformed 0 ∷ malformed 0 ∷ malformed 0 ∷ malformed 0 ∷ malformed 0 ∷ malformed 0 ∷ malformed 0 ∷
+    malformed 1 ∷ malformed 1 ∷ malformed 1 ∷ malformed 1 ∷ malformed 1 ∷ malformed 2 ∷ malformed 2 ∷ malformed 2 ∷ malformed 2 ∷ []
+
+-- ---- pieces
+
+abbrev pub room : List ℕ
+room = replicate 255 0
+
+-- the same room with some bytes at its front
+abbrev pub holding : ℕ → List ℕ → List ℕ
+holding n xs = xs ++ replicate n 0
+
+abbrev pub fed : List ℕ → Fed → Ran Fed
+fed xs r = record { answer = r; bytes = xs }
+
+pub record Pieces : Type 0 where
+  pub nothing : feed (begun SendRecv) [] [] ≡ fed [] (record { verdict = More; used = 0; place = Nowhere; progress = begun SendRecv })
+  pub short-room :
+      feed (begun Echo) (0x55 ∷ []) (replicate 254 0) ≡ fed (replicate 254 0) (record { verdict = NoRoom; used = 0; place = Nowhere; progress = begun Echo })
+  pub whole :
+      feed (begun SendRecv) (0x80 ∷ 0x02 ∷ 0x55 ∷ 0x66 ∷ 0x99 ∷ []) room ≡
+      fed room (record { verdict = Good; used = 4; place = Piece 2 2; progress = begun SendRecv })
+  pub without-data :
+      feed (begun SendRecv) (0x80 ∷ 0x00 ∷ []) room ≡ fed room (record { verdict = Good; used = 2; place = Nowhere; progress = begun SendRecv })
+  pub one :
+      feed (begun SendRecv) (0x80 ∷ []) room ≡ fed room (record { verdict = More; used = 1; place = Nowhere; progress = at SendRecv Counting })
+  pub two :
+      feed (at SendRecv Counting) (0x03 ∷ 0x55 ∷ []) room ≡
+      fed (holding 254 (0x55 ∷ [])) (record { verdict = More; used = 2; place = Nowhere; progress = at SendRecv (Data 1 3) })
+  pub three :
+      feed (at SendRecv (Data 1 3)) (0x66 ∷ []) (holding 254 (0x55 ∷ [])) ≡
+      fed (holding 253 (0x55 ∷ 0x66 ∷ [])) (record { verdict = More; used = 1; place = Nowhere; progress = at SendRecv (Data 2 3) })
+  pub four :
+      feed (at SendRecv (Data 2 3)) (0x77 ∷ 0x99 ∷ []) (holding 253 (0x55 ∷ 0x66 ∷ [])) ≡
+      fed (holding 252 (0x55 ∷ 0x66 ∷ 0x77 ∷ [])) (record { verdict = Good; used = 1; place = Room 3; progress = begun SendRecv })
+  -- all data in the piece just given
+  pub late : feed (at SendRecv (Data 0 1)) (0x55 ∷ []) room ≡ fed room (record { verdict = Good; used = 1; place = Piece 0 1; progress = begun SendRecv })
+  pub event :
+      feed (at (Idle 0x02) Waking) (0x02 ∷ []) room ≡ fed room (record { verdict = Good; used = 1; place = Piece 0 1; progress = begun (Idle 0x02) })
+  pub error :
+      feed (at Idn (Failed 0x83)) (0x00 ∷ []) room ≡ fed room (record { verdict = Error 0x83; used = 1; place = Nowhere; progress = begun Idn })
+  -- records that no call made
+  pub full : feed (at SendRecv (Data 3 3)) (0x00 ∷ []) room ≡ fed room (record { verdict = Malformed; used = 1; place = Nowhere; progress = begun SendRecv })
+  pub strange : feed (at Echo Waking) (0x01 ∷ []) room ≡ fed room (record { verdict = Malformed; used = 1; place = Nowhere; progress = begun Echo })
+
+-- ---- places
+
+abbrev pub Places : Type 0
+Places =
+    map (dataOf (1 ∷ 2 ∷ 3 ∷ []) (7 ∷ 8 ∷ [])) (Nowhere ∷ Piece 1 2 ∷ Piece 3 0 ∷ Piece 2 2 ∷ Piece 4 0 ∷ Room 2 ∷ Room 0 ∷ Room 3 ∷ [])
+    ≡ [] ∷ (2 ∷ 3 ∷ []) ∷ [] ∷ [] ∷ [] ∷ (7 ∷ 8 ∷ []) ∷ [] ∷ [] ∷ []
