@@ -26,6 +26,11 @@ one-each =
       prescales = λ w. one-answer _;
       feeds = λ p piece room. one-outcome _;
       chooses = λ piece room place. one-answer _;
+      sets = λ plan level. one-answer _;
+      hears = λ s answer. one-answer _;
+      guards = λ reference. one-answer _;
+      unpowered = one-answer _;
+      meets = λ s call. one-outcome _;
       timed = λ s. one-answer _;
       waits = λ s. one-answer _;
     }

@@ -19,10 +19,16 @@ use Rattle.model.specs.declared.Verdict.{Verdict}
 use Rattle.model.specs.declared.Verdict.the-variants.{More, Good, Error, Malformed, NoRoom}
 use Rattle.model.specs.declared.Place.{Place}
 use Rattle.model.specs.declared.Fed.{Fed}
+use Rattle.model.specs.declared.Plan.{Plan}
+use Rattle.model.specs.declared.Search.{Search}
+use Rattle.model.specs.declared.Seen.{Seen}
+use Rattle.model.specs.declared.Session.{Session}
 use Rattle.model.specs.Words.{Pastes, Bytes, concat}
 use Rattle.model.specs.Contract.{Ran, OneAnswer, OneOutcome}
 use Rattle.model.specs.Frames.{Command, idleData, frame, allowed, Transfer, write, readCommand, command, Writes, Reads, Receives, Flagged, Allows, Prescales}
 use Rattle.model.specs.Replies.{leastRoom, Reply, Meaning, meaning, reply, begun, feed, dataOf, Feeds, Chooses}
+use Rattle.model.specs.Calibration.{Sets, Hears, Guards}
+use Rattle.model.specs.Session.{Call, Meets, Unpowered}
 use Rattle.model.specs.Times.{ticks, times, tTO, exactly, Timed, Waits}
 
 -- ---- demand 2: frames
@@ -143,5 +149,10 @@ pub record OneEach : Type 0 where
   pub prescales : (w : ℕ) → OneAnswer (Prescales w)
   pub feeds : (p : Progress) (piece room : List ℕ) → OneOutcome (Feeds p piece room)
   pub chooses : (piece room : List ℕ) (place : Place) → OneAnswer (Chooses piece room place)
+  pub sets : (plan : Plan) (level : ℕ) → OneAnswer (Sets plan level)
+  pub hears : (s : Search) (answer : Seen) → OneAnswer (Hears s answer)
+  pub guards : (reference : ℕ) → OneAnswer (Guards reference)
+  pub unpowered : OneAnswer Unpowered
+  pub meets : (s : Session) (call : Call) → OneOutcome (Meets s call)
   pub timed : (s : Settings) → OneAnswer (Timed s)
   pub waits : (s : Settings) → OneAnswer (Waits s)

@@ -4,4 +4,6 @@ pub mod Refusals
 pub mod Frames
 pub mod Replies
 pub mod Times
+pub mod Calibration
+pub mod Session
 pub mod Claims
