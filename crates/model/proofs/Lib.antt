@@ -3,5 +3,6 @@ pub mod Frames
 pub mod Table
 pub mod Cutting
 pub mod Feeding
+pub mod Refusing
 pub mod Exactness
 pub mod Outcomes

@@ -1,13 +1,14 @@
 -- The statements of the promises, as named types. proofs/ proves each.
 -- Assumes nothing.
-use Prim.Native.Nat.{ℕ, suc, _+_, _≤_, _<_}
+use Prim.Native.Nat.{ℕ, suc, _+_, _%_, _≤_, _<_}
 use mathlib.Core.Path.{_≡_}
-use mathlib.Core.Bool.{Bool, true}
+use mathlib.Core.Bool.{Bool, true, false}
+use mathlib.Core.Logic.{_↔_, _⊎_}
 use mathlib.Core.List.{List, [], _∷_, _++_}
-use lib.ListN.{length}
+use lib.ListN.{length, drop}
 use Rattle.model.specs.declared.Interface.{Interface}
 use Rattle.model.specs.declared.Refusal.{Refusal}
-use Rattle.model.specs.declared.Refusal.the-variants.{Invalid}
+use Rattle.model.specs.declared.Refusal.the-variants.{Invalid, NoBand}
 use Rattle.model.specs.declared.Settings.{Settings}
 use Rattle.model.specs.declared.Frame.{Frame}
 use Rattle.model.specs.declared.Reading.{Reading}
@@ -22,14 +23,48 @@ use Rattle.model.specs.declared.Fed.{Fed}
 use Rattle.model.specs.declared.Plan.{Plan}
 use Rattle.model.specs.declared.Search.{Search}
 use Rattle.model.specs.declared.Seen.{Seen}
+use Rattle.model.specs.declared.Guard.{Guard}
 use Rattle.model.specs.declared.Session.{Session}
+use Rattle.model.specs.declared.Answer.{Answer}
 use Rattle.model.specs.Words.{Pastes, Bytes, concat}
 use Rattle.model.specs.Contract.{Ran, OneAnswer, OneOutcome}
-use Rattle.model.specs.Frames.{Command, idleData, frame, allowed, Transfer, write, readCommand, command, Writes, Reads, Receives, Flagged, Allows, Prescales}
+use Rattle.model.specs.Frames.{Command, idleData, frame, allowed, wrapped, Transfer, write, readCommand, command, Writes, Reads, Receives, Flagged, Allows, Prescales}
 use Rattle.model.specs.Replies.{leastRoom, Reply, Meaning, meaning, reply, begun, feed, dataOf, Feeds, Chooses}
-use Rattle.model.specs.Calibration.{Sets, Hears, Guards}
-use Rattle.model.specs.Session.{Call, Meets, Unpowered}
+use Rattle.model.specs.Refusals.{numberOf}
+use Rattle.model.specs.Calibration.{band, Sets, Hears, Guards}
+use Rattle.model.specs.Session.{Call, request, busy, unready, barred, awaiting, outcome, refuse, step, Meets, Unpowered}
+use Rattle.model.specs.Checks.{condition, order, Number, number, numbered, First, lent, isMild}
 use Rattle.model.specs.Times.{ticks, times, tTO, exactly, Timed, Waits}
+
+-- ---- demand 1: refusals
+
+-- refusal k is given if and only if its condition holds and none before it in the order does, for every call and every session
+abbrev pub Exactly : Type 0
+Exactly =
+    (s : Session) (c : Call) (k : ℕ) →
+    (numbered (step s c .answer .answer) ≡ number k) ↔ First k (λ (j : ℕ). condition j s c) (order c)
+
+-- refusals 1, 2, 3, 4, 6 and 11 change nothing, write nothing and consume nothing
+abbrev pub Untouched : Type 0
+Untouched =
+    (s : Session) (c : Call) (k : Refusal) → step s c .answer .answer ≡ Answer.Refused k → isMild (numberOf k) ≡ true →
+    step s c ≡ refuse s k (lent c)
+
+-- the guard band is refused exactly below 08, above F4 and where the reference is not a multiple of 4
+abbrev pub BandRefused : Type 0
+BandRefused = (r : ℕ) → (band r ≡ Guard.Refused NoBand) ↔ ((r < 0x08) ⊎ ((0xF4 < r) ⊎ (r % 4 ≡ 0 → ⊥)))
+
+-- a request with valid fields and room enough, where nothing is awaited and no calibration runs, in Ready or Selected (SendRecv in Selected,
+-- with n = 0 only for protocol 1), sends the frame of its command and waits for its reply
+abbrev pub Sends : Type 0
+Sends =
+    (s : Session) (c : Command) (out : List ℕ) →
+    busy s ≡ false → unready (s .state) c ≡ false → barred (s .state) c ≡ false → allowed c ≡ true → length (wrapped (s .interface) (frame c)) ≤ length out →
+    step s (request c out) ≡
+    record {
+      answer = outcome (awaiting s c (s .calibration)) (Answer.Sent (length (wrapped (s .interface) (frame c))));
+      bytes = wrapped (s .interface) (frame c) ++ drop (length (wrapped (s .interface) (frame c))) out;
+    }
 
 -- ---- demand 2: frames
 
@@ -122,7 +157,7 @@ Takes = (p : Progress) (piece room : List ℕ) → TakesBy (feed p piece room .a
 -- ---- demand 2: waiting times
 
 -- each field in milliseconds is its ticks / 32, exactly
-pub record Exactly (s : Settings) : Type 0 where
+pub record InTicks (s : Settings) : Type 0 where
   pub low : exactly (times s .low) (ticks s .low)
   pub reference : exactly (times s .reference) (ticks s .reference)
   pub inactive : exactly (times s .inactive) (ticks s .inactive)
@@ -131,7 +166,7 @@ pub record Exactly (s : Settings) : Type 0 where
   pub dac : exactly (times s .dac) (ticks s .dac)
 
 abbrev pub Exact : Type 0
-Exact = (s : Settings) → Bytes (idleData s) → Exactly s
+Exact = (s : Settings) → Bytes (idleData s) → InTicks s
 
 -- the greatest t_TO is 134,217,728 ticks
 abbrev pub Greatest : Type 0

@@ -6,4 +6,5 @@ pub mod Replies
 pub mod Times
 pub mod Calibration
 pub mod Session
+pub mod Checks
 pub mod Claims
