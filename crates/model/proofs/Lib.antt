@@ -4,5 +4,9 @@ pub mod Table
 pub mod Cutting
 pub mod Feeding
 pub mod Refusing
+pub mod Idling
+pub mod Tree
+pub mod Invariant
+pub mod Theorems
 pub mod Exactness
 pub mod Outcomes

@@ -7,4 +7,6 @@ pub mod Times
 pub mod Calibration
 pub mod Session
 pub mod Checks
+pub mod History
+pub mod Promises
 pub mod Claims
