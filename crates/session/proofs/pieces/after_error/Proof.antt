@@ -1,0 +1,36 @@
+-- `session::pieces::after_error` meets its contract: an arm for each command.
+-- Assumes nothing.
+use borrow.Author.Needs.{needs}
+use Rattle.session.proofs.pieces.after_error.Statement.{statement}
+use Rattle.session.proofs.pieces.after_error.Tie as tie
+
+returns : tie.Need-returns
+returns c = simp (c .before .enum-told .given .1) (c .resting .ensures)
+
+returns-3 : tie.Need-returns-3
+returns-3 c = simp (c .before .enum-told3 .given .1) (c .resting2 .ensures)
+
+returns-4 : tie.Need-returns-4
+returns-4 c = simp (c .before .enum-told4 .given .1) (c .resting3 .ensures)
+
+returns-5 : tie.Need-returns-5
+returns-5 c = simp (c .before .enum-told5 .given .1) (c .resting4 .ensures)
+
+pub after-error-spec : {M : Type 1} → statement M
+after-error-spec =
+    tie.close
+    (tie.spec
+    (λ c. search needs)
+    (λ c κs. search needs)
+    (λ c. search needs)
+    (λ c. search needs)
+    (λ c κs. search needs)
+    (λ c. search needs)
+    (λ c κs. search needs)
+    (λ c. search needs)
+    (λ c κs. search needs)
+    returns
+    (λ c. search needs)
+    returns-3
+    returns-4
+    returns-5)

@@ -1,0 +1,47 @@
+-- `session::requests::idle` meets its contract: its leave, and what is written.
+-- Assumes nothing.
+use borrow.Author.Needs.{needs}
+use mathlib.Core.Path.{refl}
+use denote.Ref.{now}
+use Rattle.model.specs.Frames.{Command, Transfer}
+use Rattle.model.specs.Session.{awaiting, sending}
+use Rattle.session.specs.declared.states.Leave.{Leave}
+use Rattle.session.specs.declared.states.Leave.the-variants.{Given}
+use Rattle.session.proofs.Calls.{asked, sends}
+use Rattle.session.proofs.requests.idle.Statement.{statement}
+use Rattle.session.proofs.requests.idle.Tie as tie
+
+returns : tie.Need-returns
+returns c =
+    let l = c .before .before .before .before in
+    let a = l .before .before .args in
+    let out = now (a .out) in
+    let ran = sending (a .s) (Transfer.send (Command.idle (a .settings))) out (awaiting (a .s) (Command.idle (a .settings)) (a .s .calibration)) in
+    asked (a .s) out ran (l .leave-to-ask .result) (Leave.Refused _) (c .before .before .refusal .given .1) (l .leave-to-ask .ensures) (record { answer = c .refused .ensures; bytes = refl })
+
+returns-2 : tie.Need-returns-2
+returns-2 c =
+    let w = c .before .before .before in
+    let n = w .before .before in
+    let told = n .before in
+    let l = told .before .before in
+    let a = l .before .before .args in
+    let out = now (a .out) in
+    let next = awaiting (a .s) (Command.idle (a .settings)) (a .s .calibration) in
+    asked (a .s) out (sending (a .s) (Transfer.send (Command.idle (a .settings))) out next) (l .leave-to-ask .result) Given (told .enum-told .given .1) (l .leave-to-ask .ensures)
+    (sends (a .s) (Transfer.send (Command.idle (a .settings))) out next (w .idle .result) (n .awaiting .result) (c .sent .ensures) (w .idle .ensures) (n .awaiting .ensures))
+
+pub idle-spec : {M : Type 1} → statement M
+idle-spec =
+    tie.close
+    (tie.spec
+    (λ c κs. search needs)
+    (λ c. search needs)
+    (λ c κs. search needs)
+    (λ c. search needs)
+    (λ c κs. search needs)
+    (λ c κs. search needs)
+    (λ c κs. search needs)
+    returns
+    (λ c. search needs)
+    returns-2)
