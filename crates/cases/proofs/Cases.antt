@@ -5,6 +5,7 @@ use lib.Ieee.{round, ofInt}
 use Rattle.model.specs.Times.{tL, tREF, tINACTIVE, tTO, tOSC, tDAC, milliseconds}
 use Rattle.cases.specs.Starred.{Starred}
 use Rattle.cases.specs.Replies.{Codes, Good-replies, Bad-replies, Pieces, Places}
+use Rattle.cases.specs.Sessions.{Changes, Requests, Feeds, Calibrations}
 use Rattle.cases.specs.Published.{Frames, Read, Refused, Transfers, Outputs, Received, Waits, Numbers, Values}
 
 pub starred : Starred
@@ -16,6 +17,11 @@ starred =
       calibration-times = refl;
       longest-ticks = refl;
       longest-time = refl;
+      switch-at-5C = refl;
+      tag-only-at-00 = refl;
+      timeout-only-at-FC = refl;
+      references = refl;
+      bands = refl;
       poll-flags = refl;
       awaited-idle = refl;
       awaited-send-recv = refl;
@@ -92,3 +98,15 @@ pieces =
 
 pub places : Places
 places = refl
+
+pub changes : Changes
+changes = refl
+
+pub requests : Requests
+requests = refl
+
+pub fed : Feeds
+fed = refl
+
+pub calibrations : Calibrations
+calibrations = refl

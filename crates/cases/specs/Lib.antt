@@ -1,3 +1,4 @@
 pub mod Starred
 pub mod Published
 pub mod Replies
+pub mod Sessions
