@@ -32,13 +32,23 @@ returns-4 : tie.Need-returns-4
 returns-4 c =
     let found = c .before .before .before .before .args .search in
     let n = found .commands in
-    simp (le-ltb n 2 (omega (arith, c .before .before .before .if1 .left)), ne-eqb n 2 (λ e. omega (arith, c .before .before .if2 .left)), le-ltb n 8 (omega (arith, c .before .if3 .left)), lt-ltb (found .level) 4 (omega (arith, c .if4 .taken)))
+    simp (
+      le-ltb n 2 (omega (arith, c .before .before .before .if1 .left)),
+      ne-eqb n 2 (λ e. omega (arith, c .before .before .if2 .left)),
+      le-ltb n 8 (omega (arith, c .before .if3 .left)),
+      lt-ltb (found .level) 4 (omega (arith, c .if4 .taken)),
+    )
 
 returns-5 : tie.Need-returns-5
 returns-5 c =
     let found = c .before .before .before .before .args .search in
     let n = found .commands in
-    simp (le-ltb n 2 (omega (arith, c .before .before .before .if1 .left)), ne-eqb n 2 (λ e. omega (arith, c .before .before .if2 .left)), le-ltb n 8 (omega (arith, c .before .if3 .left)), le-ltb (found .level) 4 (omega (arith, c .if4 .left)))
+    simp (
+      le-ltb n 2 (omega (arith, c .before .before .before .if1 .left)),
+      ne-eqb n 2 (λ e. omega (arith, c .before .before .if2 .left)),
+      le-ltb n 8 (omega (arith, c .before .if3 .left)),
+      le-ltb (found .level) 4 (omega (arith, c .if4 .left)),
+    )
 
 pub timed-out-spec : {M : Type 1} → statement M
 timed-out-spec =

@@ -16,7 +16,8 @@ returns c =
     let l = c .before .before .before .before in
     let a = l .before .before .before .args in
     let out = now (a .out) in
-    let ran = sending (a .s) (Transfer.send (Command.protocolSelect (a .protocol) (now (a .parameters)))) out (awaiting (a .s) (Command.protocolSelect (a .protocol) (now (a .parameters))) (a .s .calibration)) in
+    let command = Command.protocolSelect (a .protocol) (now (a .parameters)) in
+    let ran = sending (a .s) (Transfer.send command) out (awaiting (a .s) command (a .s .calibration)) in
     asked (a .s) out ran (l .leave-to-ask .result) (Leave.Refused _) (c .before .before .refusal .given .1) (l .leave-to-ask .ensures) (record { answer = c .refused .ensures; bytes = refl })
 
 returns-2 : tie.Need-returns-2
@@ -27,9 +28,10 @@ returns-2 c =
     let l = told .before .before in
     let a = l .before .before .before .args in
     let out = now (a .out) in
-    let next = awaiting (a .s) (Command.protocolSelect (a .protocol) (now (a .parameters))) (a .s .calibration) in
-    asked (a .s) out (sending (a .s) (Transfer.send (Command.protocolSelect (a .protocol) (now (a .parameters)))) out next) (l .leave-to-ask .result) Given (told .enum-told .given .1) (l .leave-to-ask .ensures)
-    (sends (a .s) (Transfer.send (Command.protocolSelect (a .protocol) (now (a .parameters)))) out next (w .protocol-select .result) (n .awaiting .result) (c .sent .ensures) (w .protocol-select .ensures) (n .awaiting .ensures))
+    let command = Command.protocolSelect (a .protocol) (now (a .parameters)) in
+    let next = awaiting (a .s) command (a .s .calibration) in
+    asked (a .s) out (sending (a .s) (Transfer.send command) out next) (l .leave-to-ask .result) Given (told .enum-told .given .1) (l .leave-to-ask .ensures)
+    (sends (a .s) (Transfer.send command) out next (w .protocol-select .result) (n .awaiting .result) (c .sent .ensures) (w .protocol-select .ensures) (n .awaiting .ensures))
 
 pub protocol-select-spec : {M : Type 1} → statement M
 protocol-select-spec =

@@ -16,8 +16,11 @@ returns c =
     let l = c .before .before .before .before in
     let a = l .before .before .before .args in
     let out = now (a .out) in
-    let ran = sending (a .s) (Transfer.send (Command.sendRecv (now (a .payload)))) out (awaiting (a .s) (Command.sendRecv (now (a .payload))) (a .s .calibration)) in
-    by-three (a .s) out ran (l .leave-to-exchange .result) (Leave.Refused _) (c .before .before .refusal .given .1) (busy (a .s)) (unready (a .s .state) (Command.sendRecv (now (a .payload)))) (barred (a .s .state) (Command.sendRecv (now (a .payload)))) (l .leave-to-exchange .ensures) (record { answer = c .refused .ensures; bytes = refl })
+    let command = Command.sendRecv (now (a .payload)) in
+    let ran = sending (a .s) (Transfer.send command) out (awaiting (a .s) command (a .s .calibration)) in
+    by-three (a .s) out ran (l .leave-to-exchange .result) (Leave.Refused _) (c .before .before .refusal .given .1)
+    (busy (a .s)) (unready (a .s .state) command) (barred (a .s .state) command) (l .leave-to-exchange .ensures)
+    (record { answer = c .refused .ensures; bytes = refl })
 
 returns-2 : tie.Need-returns-2
 returns-2 c =
@@ -27,9 +30,11 @@ returns-2 c =
     let l = told .before .before in
     let a = l .before .before .before .args in
     let out = now (a .out) in
-    let next = awaiting (a .s) (Command.sendRecv (now (a .payload))) (a .s .calibration) in
-    by-three (a .s) out (sending (a .s) (Transfer.send (Command.sendRecv (now (a .payload)))) out next) (l .leave-to-exchange .result) Given (told .enum-told .given .1) (busy (a .s)) (unready (a .s .state) (Command.sendRecv (now (a .payload)))) (barred (a .s .state) (Command.sendRecv (now (a .payload)))) (l .leave-to-exchange .ensures)
-    (sends (a .s) (Transfer.send (Command.sendRecv (now (a .payload)))) out next (w .send-recv .result) (n .awaiting .result) (c .sent .ensures) (w .send-recv .ensures) (n .awaiting .ensures))
+    let command = Command.sendRecv (now (a .payload)) in
+    let next = awaiting (a .s) command (a .s .calibration) in
+    by-three (a .s) out (sending (a .s) (Transfer.send command) out next) (l .leave-to-exchange .result) Given (told .enum-told .given .1)
+    (busy (a .s)) (unready (a .s .state) command) (barred (a .s .state) command) (l .leave-to-exchange .ensures)
+    (sends (a .s) (Transfer.send command) out next (w .send-recv .result) (n .awaiting .result) (c .sent .ensures) (w .send-recv .ensures) (n .awaiting .ensures))
 
 pub send-recv-spec : {M : Type 1} → statement M
 send-recv-spec =
