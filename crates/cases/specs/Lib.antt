@@ -2,3 +2,4 @@ pub mod Starred
 pub mod Published
 pub mod Replies
 pub mod Sessions
+pub mod Chips
