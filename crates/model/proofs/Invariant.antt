@@ -201,7 +201,7 @@ keep-reset s h out v =
 -- ---- a command of a calibration
 
 -- WU source and level are read off the bytes given out, over either interface
-asked-is : (i : Interface) (plan : Plan) (level : ℕ) (rest : List ℕ)
+pub asked-is : (i : Interface) (plan : Plan) (level : ℕ) (rest : List ℕ)
     → asked (bytes i (send (idle (settingsAt plan level))) ++ rest) ≡ exchange (settingsAt plan level .source) level []
 asked-is Spi plan level rest = refl
 asked-is Uart plan level rest = refl
@@ -439,6 +439,12 @@ pub record Holds (o : Outcome) (es : List Exchange) (before : List Told) : Type 
   pub live : Live (o .session .calibration) (o .session .state) es
   pub says : SaysBy (o .answer) (length es) (answersIn es) before
 
+-- a command that is out has no answer yet
+pub before-was : (found : Search) (p : Progress) (h : List Event) (ask : Asked found p (exchanges h)) → answers h ≡ answersIn (ask .old)
+before-was found p h ask =
+    ap answersIn (ask .newest)
+    ∙ ap (λ (w : Heard). answerBy w (found .level) (answersIn (ask .old))) (not-yet (ask .source) (ask .phase) (ask .bytes) (ask .stands))
+
 -- a command is out, and the bytes ys since it came to the answer x
 module _ (found : Search) (p : Progress) (h : List Event) (ask : Asked found p (exchanges h)) (ys : List ℕ) (x : Said) (v : heardOf (ask .source) ys ≡ whole x) where
   abbrev now : List Exchange
@@ -450,13 +456,8 @@ module _ (found : Search) (p : Progress) (h : List Event) (ask : Asked found p (
   answered : answersIn now ≡ ts
   answered = ap (λ (w : Heard). answerBy w (found .level) (answersIn (ask .old))) v
 
-  before-was : answers h ≡ answersIn (ask .old)
-  before-was =
-      ap answersIn (ask .newest)
-      ∙ ap (λ (w : Heard). answerBy w (found .level) (answersIn (ask .old))) (not-yet (ask .source) (ask .phase) (ask .bytes) (ask .stands))
-
   one : One (answersIn now) (answers h)
-  one = ap length answered ∙ ap (λ (us : List Told). suc (length us)) (sym before-was)
+  one = ap length answered ∙ ap (λ (us : List Told). suc (length us)) (sym (before-was found p h ask))
 
   settled : Settled now
   settled = subst (Decided (ask .source)) (sym v) tt
@@ -520,7 +521,7 @@ module _ (found : Search) (p : Progress) (h : List Event) (ask : Asked found p (
 
 -- ---- a piece where bytes change nothing
 
-fed-length : (xs : List ℕ) (es : List Exchange) → length (fed xs es) ≡ length es
+pub fed-length : (xs : List ℕ) (es : List Exchange) → length (fed xs es) ≡ length es
 fed-length xs [] = refl
 fed-length xs (x ∷ es) = refl
 
@@ -528,11 +529,11 @@ fed-settled : (xs : List ℕ) (es : List Exchange) → Settled es → Settled (f
 fed-settled xs [] d = tt
 fed-settled xs (x ∷ es) d = subst (Decided (x .source)) (sym (stays (x .source) (x .bytes) xs d)) d
 
-fed-answers : (xs : List ℕ) (es : List Exchange) → Settled es → answersIn (fed xs es) ≡ answersIn es
+pub fed-answers : (xs : List ℕ) (es : List Exchange) → Settled es → answersIn (fed xs es) ≡ answersIn es
 fed-answers xs [] d = refl
 fed-answers xs (x ∷ es) d = ap (λ (v : Heard). answerBy v (x .level) (answersIn es)) (stays (x .source) (x .bytes) xs d)
 
-fed-nothing : (es : List Exchange) → fed [] es ≡ es
+pub fed-nothing : (es : List Exchange) → fed [] es ≡ es
 fed-nothing [] = refl
 fed-nothing (x ∷ es) = ap (λ (ys : List ℕ). exchange (x .source) (x .level) ys ∷ es) (append-nil (x .bytes))
 
@@ -571,7 +572,7 @@ put h c m es e k =
 short-kind : (xs room : List ℕ) (es : List Exchange) → ltb (length room) leastRoom ≡ true → exchangesBy (pick (ltb (length room) leastRoom) other (piece xs)) es ≡ es
 short-kind xs room es e = simp e
 
-fed-kind : (xs room : List ℕ) (es : List Exchange) → ltb (length room) leastRoom ≡ false → exchangesBy (pick (ltb (length room) leastRoom) other (piece xs)) es ≡ fed xs es
+pub fed-kind : (xs room : List ℕ) (es : List Exchange) → ltb (length room) leastRoom ≡ false → exchangesBy (pick (ltb (length room) leastRoom) other (piece xs)) es ≡ fed xs es
 fed-kind xs room es e = simp e
 
 keep-unasked : (s : Session) (x : ℕ) (xs room : List ℕ) (h : List Event) → Inv s h → isWaiting (s .state) ≡ false
@@ -632,8 +633,7 @@ module _ (plan : Plan) (found : Search) (i : Interface) (selected : ℕ) (h : Li
             ap length
                 (ap (λ (u : Heard). answerBy u (found .level) (answersIn (ask .old))) e
                 ∙ same
-                ∙ sym (ap answersIn (ask .newest)
-                ∙ ap (λ (u : Heard). answerBy u (found .level) (answersIn (ask .old))) (not-yet (ask .source) (ask .phase) (ask .bytes) (ask .stands)))),
+                ∙ sym (before-was found p h ask)),
           )
   on-taken p ask x xs room m (came j k f) =
       let e = getD (x ∷ xs) j 0 in
@@ -653,13 +653,12 @@ module _ (plan : Plan) (found : Search) (i : Interface) (selected : ℕ) (h : Li
               arith,
               ap length
                   (ap (λ (u : Heard). answerBy u (found .level) (answersIn (ask .old))) e
-                  ∙ sym (ap answersIn (ask .newest)
-                  ∙ ap (λ (u : Heard). answerBy u (found .level) (answersIn (ask .old))) (not-yet (ask .source) (ask .phase) (ask .bytes) (ask .stands)))),
+                  ∙ sym (before-was found p h ask)),
             );
       }
 
 -- a piece that is read from a progress
-abbrev readFrom : Session → ℕ → ℕ → List ℕ → List ℕ → Progress → Ran Outcome
+abbrev pub readFrom : Session → ℕ → ℕ → List ℕ → List ℕ → Progress → Ran Outcome
 readFrom s selected x xs room q =
     record {
       answer = takenBy (fedPhase (q .phase) (q .awaited) (x ∷ xs) room .answer .verdict) (fedPhase (q .phase) (q .awaited) (x ∷ xs) room .answer) s (q .awaited) selected (x ∷ xs);
@@ -669,7 +668,7 @@ readFrom s selected x xs room q =
 too-short : (s : Session) (p : Progress) (selected x : ℕ) (xs room : List ℕ) → ltb (length room) leastRoom ≡ true → taken s p selected (x ∷ xs) room ≡ refuse s Short room
 too-short s p selected x xs room e = simp e
 
-long-enough : (s : Session) (p : Progress) (selected x : ℕ) (xs room : List ℕ) → ltb (length room) leastRoom ≡ false
+pub long-enough : (s : Session) (p : Progress) (selected x : ℕ) (xs room : List ℕ) → ltb (length room) leastRoom ≡ false
     → taken s p selected (x ∷ xs) room ≡ readFrom s selected x xs room p
 long-enough s p selected x xs room e = simp e
 

@@ -8,5 +8,6 @@ pub mod Idling
 pub mod Tree
 pub mod Invariant
 pub mod Theorems
+pub mod Run
 pub mod Exactness
 pub mod Outcomes

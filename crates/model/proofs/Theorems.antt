@@ -32,7 +32,7 @@ anew r r′ i = refl
 
 -- ---- what holds of a history that is reached
 
-inv-of : (r : Reached) → After r → Inv (r .session) (r .history)
+pub inv-of : (r : Reached) → After r → Inv (r .session) (r .history)
 inv-of r (s, i, cs, p) = subst (λ (x : Reached). Inv (x .session) (x .history)) p (holds-on s i cs)
 
 pub ends : Ends
