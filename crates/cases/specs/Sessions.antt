@@ -11,11 +11,11 @@ use Rattle.model.specs.declared.Plan.{Plan}
 use Rattle.model.specs.declared.State.{State}
 use Rattle.model.specs.declared.State.the-variants.{PowerUp, Ready, Selected, Lost}
 use Rattle.model.specs.declared.Answer.{Answer}
-use Rattle.model.specs.declared.Answer.the-variants.{Sent, More, Good, Reference, Refused}
+use Rattle.model.specs.declared.Answer.the-variants.{Done, Sent, More, Good, Reference, Refused}
 use Rattle.model.specs.Frames.{idn, protocolSelect, sendRecv, idle, echo}
 use Rattle.model.specs.Session.{Call, pulse, request, reset, poll, read, calibrate, next, feed, unpowered}
-use Rattle.model.specs.History.{Reached, run, on}
-use Rattle.cases.specs.Starred.{plan, calibrating, room, last}
+use Rattle.model.specs.History.{Event, Reached, run, on}
+use Rattle.cases.specs.Starred.{plan, calibrating, room}
 
 -- the calls after a power-on
 abbrev pub after : Interface → List Call → Reached
@@ -24,8 +24,13 @@ after i calls = run (on unpowered i) calls
 abbrev pub states : Interface → List (List Call) → List State
 states i = map (λ (calls : List Call). after i calls .session .state)
 
+-- the answer to the newest call
+abbrev pub newest : List Event → Answer
+newest [] = Done
+newest (e ∷ h) = e .answer
+
 abbrev pub answers : Interface → List (List Call) → List Answer
-answers i = map (λ (calls : List Call). last (after i calls .history))
+answers i = map (λ (calls : List Call). newest (after i calls .history))
 
 -- ---- calls that the cases share
 

@@ -1,8 +1,8 @@
 -- Document 01, "Cases": those with * in one statement, a table over the definitions.
 -- Assumes nothing.
-use Prim.Native.Nat.{ℕ, zero, suc}
+use Prim.Native.Nat.{ℕ}
 use mathlib.Core.Path.{_≡_}
-use mathlib.Core.Bool.{true, false}
+use mathlib.Core.Bool.{Bool, true, false}
 use mathlib.Core.List.{List, [], _∷_, map, reverse}
 use lib.Dec.{leb}
 use lib.ListN.{replicate}
@@ -14,18 +14,17 @@ use Rattle.model.specs.declared.Settings.{Settings}
 use Rattle.model.specs.declared.Plan.{Plan}
 use Rattle.model.specs.declared.Guard.{Guard}
 use Rattle.model.specs.declared.Guard.the-variants.{Band}
-use Rattle.model.specs.declared.Answer.{Answer}
-use Rattle.model.specs.declared.Answer.the-variants.{Done, Reference}
+use Rattle.model.specs.declared.Answer.the-variants.{Reference}
 use Rattle.model.specs.declared.Flags.{Flags}
 use Rattle.model.specs.declared.Awaited.the-variants.{SendRecv, Idle}
 use Rattle.model.specs.declared.Verdict.the-variants.{Good, Error, Malformed}
-use Rattle.model.specs.Words.{pick}
 use Rattle.model.specs.Frames.{idle, frame, flags}
 use Rattle.model.specs.Replies.{meaning, reply}
 use Rattle.model.specs.Times.{ticks, milliseconds}
 use Rattle.model.specs.Calibration.{settingsAt, band}
-use Rattle.model.specs.Session.{pulse, calibrate, next, feed, unpowered}
-use Rattle.model.specs.History.{Event, Reached, turn, run, on, Exchange, exchanges}
+use Rattle.model.specs.Session.{unpowered}
+use Rattle.model.specs.History.{Event, Exchange, exchanges}
+use Rattle.model.specs.Talk.{eventOf, calibrated, last}
 
 -- the plan of the calibrations, and the settings of its Idle command at a level
 abbrev pub plan : Plan
@@ -65,40 +64,21 @@ longest =
 abbrev pub ms : ℕ → Float
 ms n = ofInt binary32 (pos n)
 
--- ---- a calibration, against a chip that gives tag up to a level and timeout above it
+-- ---- a calibration over UART, with a chip that gives tag up to a level and timeout above it
 
 abbrev pub room : List ℕ
 room = replicate 255 0xEE
 
-abbrev pub says : ℕ → ℕ → List ℕ
-says top level = 0x00 ∷ 0x01 ∷ pick (leb level top) 0x02 0x01 ∷ []
+-- each reply byte by byte
+abbrev pub singly : ℕ → Bool → List (List ℕ)
+singly k x = (0x00 ∷ []) ∷ (0x01 ∷ []) ∷ (eventOf x ∷ []) ∷ []
 
--- the level of the newest command given out
-abbrev pub newest : List Exchange → ℕ
-newest [] = 0
-newest (e ∷ es) = e .level
-
--- the chip answers the newest command
-abbrev pub answered : ℕ → Reached → Reached
-answered top r = turn r (feed (says top (newest (exchanges (r .history)))) room)
-
--- n commands more, each with its answer
-abbrev pub driven : ℕ → ℕ → Reached → Reached
-driven zero top r = r
-driven (suc n) top r = driven n top (answered top (turn r (next room)))
-
--- power-on, a pulse, the start of a calibration, and all eight commands with their answers
-abbrev pub calibrated : ℕ → List Event
-calibrated top = driven 7 top (answered top (run (on unpowered Uart) (pulse ∷ calibrate plan room ∷ []))) .history
+abbrev pub switchingAt : ℕ → List Event
+switchingAt top = calibrated (λ (level : ℕ). leb level top) singly (λ (h : List Event). room) (λ (h : List Event). room) plan Uart unpowered .history
 
 -- the levels tried, in order
 abbrev pub levels : List Event → List ℕ
 levels h = reverse (map (λ (x : Exchange). x .level) (exchanges h))
-
--- the answer to the newest call
-abbrev pub last : List Event → Answer
-last [] = Done
-last (e ∷ h) = e .answer
 
 pub record Starred : Type 0 where
   pub calibration-frame : (level : ℕ) →
@@ -109,11 +89,11 @@ pub record Starred : Type 0 where
   pub calibration-times : map milliseconds (8448 ∷ 16896 ∷ 96 ∷ []) ≡ ms 264 ∷ ms 528 ∷ ms 3 ∷ []
   pub longest-ticks : ticks longest .timeout ≡ 134217728
   pub longest-time : milliseconds 134217728 ≡ ms 4194304
-  pub switch-at-5C : levels (calibrated 0x5C) ≡ 0x00 ∷ 0xFC ∷ 0x7C ∷ 0x3C ∷ 0x5C ∷ 0x6C ∷ 0x64 ∷ 0x60 ∷ []
-  pub tag-only-at-00 : levels (calibrated 0x00) ≡ 0x00 ∷ 0xFC ∷ 0x7C ∷ 0x3C ∷ 0x1C ∷ 0x0C ∷ 0x04 ∷ 0x00 ∷ []
-  pub timeout-only-at-FC : levels (calibrated 0xF8) ≡ 0x00 ∷ 0xFC ∷ 0x7C ∷ 0xBC ∷ 0xDC ∷ 0xEC ∷ 0xF4 ∷ 0xF8 ∷ []
+  pub switch-at-5C : levels (switchingAt 0x5C) ≡ 0x00 ∷ 0xFC ∷ 0x7C ∷ 0x3C ∷ 0x5C ∷ 0x6C ∷ 0x64 ∷ 0x60 ∷ []
+  pub tag-only-at-00 : levels (switchingAt 0x00) ≡ 0x00 ∷ 0xFC ∷ 0x7C ∷ 0x3C ∷ 0x1C ∷ 0x0C ∷ 0x04 ∷ 0x00 ∷ []
+  pub timeout-only-at-FC : levels (switchingAt 0xF8) ≡ 0x00 ∷ 0xFC ∷ 0x7C ∷ 0xBC ∷ 0xDC ∷ 0xEC ∷ 0xF4 ∷ 0xF8 ∷ []
   pub references :
-      map (λ (top : ℕ). last (calibrated top)) (0x5C ∷ 0x00 ∷ 0xF8 ∷ []) ≡ Reference 0x5C 8 ∷ Reference 0x00 8 ∷ Reference 0xF8 8 ∷ []
+      map (λ (top : ℕ). last (switchingAt top)) (0x5C ∷ 0x00 ∷ 0xF8 ∷ []) ≡ Reference 0x5C 8 ∷ Reference 0x00 8 ∷ Reference 0xF8 8 ∷ []
   pub bands :
       map band (0x5C ∷ 0x00 ∷ 0xF8 ∷ 0xF4 ∷ 0x08 ∷ []) ≡
       Band 0x54 0x64 ∷ Guard.Refused NoBand ∷ Guard.Refused NoBand ∷ Band 0xEC 0xFC ∷ Band 0x00 0x10 ∷ []
