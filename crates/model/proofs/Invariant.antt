@@ -558,7 +558,7 @@ ignored (On plan found) (Selected protocol) xs h w l = absurd l
 ignored (On plan found) (Waiting p selected) xs h w l = absurd (true≢false w)
 ignored (On plan found) Lost xs h w l = absurd l
 
-decide : {P : Type 0} (b : Bool) → (b ≡ true → P) → (b ≡ false → P) → P
+pub decide : {P : Type 0} (b : Bool) → (b ≡ true → P) → (b ≡ false → P) → P
 decide true p q = p refl
 decide false p q = q refl
 

@@ -7,6 +7,7 @@ pub mod Refusing
 pub mod Idling
 pub mod Tree
 pub mod Invariant
+pub mod Consumed
 pub mod Theorems
 pub mod Run
 pub mod Exactness

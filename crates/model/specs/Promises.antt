@@ -10,12 +10,14 @@ use lib.ListN.{length}
 use Rattle.model.specs.declared.Interface.{Interface}
 use Rattle.model.specs.declared.Refusal.{Refusal}
 use Rattle.model.specs.declared.Refusal.the-variants.{Short, Invalid, Unready, Busy, Malformed, Unawaited, ChipError, LowestTimeout, HighestTag, NoLevel, NoBand, CalibrationError}
+use Rattle.model.specs.declared.Awaited.{Awaited}
 use Rattle.model.specs.declared.Calibration.{Calibration}
 use Rattle.model.specs.declared.Session.{Session}
 use Rattle.model.specs.declared.Answer.{Answer}
 use Rattle.model.specs.Words.{pick}
+use Rattle.model.specs.Replies.{reply}
 use Rattle.model.specs.Session.{Call, power-on, isRunning}
-use Rattle.model.specs.History.{Event, Reached, turn, run, on, Goes, Said, tag, timeout, error, Heard, unfinished, whole, Told, told, commands, answers}
+use Rattle.model.specs.History.{Event, Reached, turn, run, on, Goes, Latest, since, latest, Said, tag, timeout, error, Heard, unfinished, whole, Told, told, commands, answers}
 
 -- code that meets the contracts has exactly the histories of the model
 abbrev pub Same : Type 0
@@ -96,6 +98,15 @@ abbrev pub Heeds : Type 0
 Heeds =
     (e : Event) (h : List Event) → Newest e h →
     (length (answers (e ∷ h)) ≤ length (answers h)) ⊎ ((length (answers (e ∷ h)) ≡ suc (length (answers h))) × Takes (e .answer))
+
+-- ---- bytes consumed
+
+-- of the bytes fed since the newest command, however they are cut, those are consumed that the table says: through the reply's last, or
+-- through the first malformed one, or all
+abbrev pub Consumes : Type 0
+Consumes =
+    (r : Reached) → After r → (a : Awaited) (xs : List ℕ) (n : ℕ) → latest (r .history) ≡ since a xs n →
+    n ≡ reply a xs .used
 
 -- ---- a named reference
 
