@@ -209,7 +209,7 @@ Keeps l c m = Now (m .answer .session .state) (latestBy c (m .answer .answer) (m
 -- ---- commands
 
 -- bytes are sent or not
-sent-or-not : (K : Ran Outcome → Type 0) (s : Session) (t : Transfer) (out : List ℕ) (after : Session)
+pub sent-or-not : (K : Ran Outcome → Type 0) (s : Session) (t : Transfer) (out : List ℕ) (after : Session)
     → ((n : ℕ) (rest : List ℕ) → K (record { answer = outcome after (Answer.Sent n); bytes = bytes (s .interface) t ++ rest }))
     → ((k : Refusal) → K (refuse s k out)) → K (sending s t out after)
 sent-or-not K s t out after sent refused =
@@ -310,11 +310,11 @@ stood-turned (Goes found) plan i state k place a xs n v = v
 stood-turned (Names reference commands) plan i state k place a xs n v = v
 stood-turned (Fails refusal) plan i state k place a xs n v = v
 
-stood-good : (c : Calibration) (i : Interface) (state : State) (piece : List ℕ) (k : ℕ) (place : Place) (a : Awaited) (xs : List ℕ) (n : ℕ)
-    → Stands state a xs (n + k) → Stood (good c i state piece k place) a xs n
-stood-good Off i state piece k place a xs n v = v
-stood-good (On plan found) i state piece k place a xs n v =
-    stood-turned (Rattle.model.specs.Calibration.heard found (seen (eventIn piece place))) plan i state k place a xs n v
+stood-good : (c : Calibration) (i : Interface) (state : State) (ps : List ℕ) (k : ℕ) (place : Place) (a : Awaited) (xs : List ℕ) (n : ℕ)
+    → Stands state a xs (n + k) → Stood (good c i state ps k place) a xs n
+stood-good Off i state ps k place a xs n v = v
+stood-good (On plan found) i state ps k place a xs n v =
+    stood-turned (Rattle.model.specs.Calibration.heard found (seen (eventIn ps place))) plan i state k place a xs n v
 
 -- by what the piece came to, and what the table then counts
 stood-taken : (v : Verdict) (r : Fed) (s : Session) (b : Awaited) (selected : ℕ) (ps : List ℕ) (a : Awaited) (xs : List ℕ) (n : ℕ)
@@ -330,8 +330,8 @@ stood-taken NoRoom r s b selected ps a xs n fine e = absurd fine
 
 -- what a piece that came to r does to a session that waits, where ps of it were fed
 abbrev Took : Session → Progress → ℕ → Latest → List ℕ → List ℕ → Fed → Type 0
-Took s p selected l piece ps r =
-    Now (takenBy (r .verdict) r s (p .awaited) selected piece .session .state) (fedTo ps (takenBy (r .verdict) r s (p .awaited) selected piece .used) l)
+Took s p selected l whole ps r =
+    Now (takenBy (r .verdict) r s (p .awaited) selected whole .session .state) (fedTo ps (takenBy (r .verdict) r s (p .awaited) selected whole .used) l)
 
 keep-read : (s : Session) (p : Progress) (selected : ℕ) (l : Latest) (x : ℕ) (xs room : List ℕ) → Now (Waiting p selected) l
     → Took s p selected l (x ∷ xs) (x ∷ xs) (fedPhase (p .phase) (p .awaited) (x ∷ xs) room .answer)

@@ -8,6 +8,7 @@ pub mod Idling
 pub mod Tree
 pub mod Invariant
 pub mod Consumed
+pub mod Owned
 pub mod Theorems
 pub mod Run
 pub mod Exactness

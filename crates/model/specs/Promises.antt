@@ -11,13 +11,14 @@ use Rattle.model.specs.declared.Interface.{Interface}
 use Rattle.model.specs.declared.Refusal.{Refusal}
 use Rattle.model.specs.declared.Refusal.the-variants.{Short, Invalid, Unready, Busy, Malformed, Unawaited, ChipError, LowestTimeout, HighestTag, NoLevel, NoBand, CalibrationError}
 use Rattle.model.specs.declared.Awaited.{Awaited}
+use Rattle.model.specs.declared.Awaited.the-variants.{Idle}
 use Rattle.model.specs.declared.Calibration.{Calibration}
 use Rattle.model.specs.declared.Session.{Session}
 use Rattle.model.specs.declared.Answer.{Answer}
 use Rattle.model.specs.Words.{pick}
 use Rattle.model.specs.Replies.{reply}
 use Rattle.model.specs.Session.{Call, power-on, isRunning}
-use Rattle.model.specs.History.{Event, Reached, turn, run, on, Goes, Latest, since, latest, Said, tag, timeout, error, Heard, unfinished, whole, Told, told, commands, answers}
+use Rattle.model.specs.History.{Event, Reached, turn, run, on, Goes, Exchange, exchanges, Latest, since, latest, Said, tag, timeout, error, Heard, unfinished, whole, Told, told, commands, answers}
 
 -- code that meets the contracts has exactly the histories of the model
 abbrev pub Same : Type 0
@@ -107,6 +108,12 @@ abbrev pub Consumes : Type 0
 Consumes =
     (r : Reached) → After r → (a : Awaited) (xs : List ℕ) (n : ℕ) → latest (r .history) ≡ since a xs n →
     n ≡ reply a xs .used
+
+-- after any call in a calibration, the one that ends it among them, that command is the calibration's own, and the bytes are those of its exchange
+abbrev pub Own : Type 0
+Own =
+    (r : Reached) → After r → isRunning (r .session .calibration) ≡ true → (c : Call) (x : Exchange) (es : List Exchange) →
+    exchanges (turn r c .history) ≡ x ∷ es → (n : ℕ) × (latest (turn r c .history) ≡ since (Idle (x .source)) (x .bytes) n)
 
 -- ---- a named reference
 
