@@ -14,7 +14,7 @@ use Rattle.model.specs.declared.Session.{Session}
 use Rattle.model.specs.declared.Answer.{Answer}
 use Rattle.model.specs.Session.{Call}
 use Rattle.model.specs.History.{Event, Reached, event, turn, run, Goes, stops, calls, Said, tag, timeout, Told, commands, answers}
-use Rattle.model.specs.Promises.{Same, Anew, After, Newest, ReportedBy, Reports, Ends, Counts, TakenBy, Takes, Heeds, Names, Level, Steady, says, Agrees, Highest, Finds}
+use Rattle.model.specs.Promises.{Same, Anew, After, Newest, ReportedBy, Reports, Ends, Counts, Answered, TakenBy, Takes, Heeds, Names, Level, Steady, says, Agrees, Highest, Finds}
 use Rattle.model.proofs.Invariant.{Inv, holds-on, Says, SaysBy, RefusedBy, Counted, Result}
 
 pub same : Same
@@ -47,7 +47,7 @@ says-as e h w a q = subst (λ (x : Answer). SaysBy x (commands (e ∷ h)) (answe
 
 -- ---- counts
 
-counted-refusal : (k : Refusal) (n c : ℕ) (ts old : List Told) → RefusedBy k c ts old → ReportedBy k n → Counted n c ts
+counted-refusal : (k : Refusal) (n c : ℕ) (ts old : List Told) → RefusedBy k c ts old → ReportedBy k n → Counted n c ts × (length ts ≡ suc (length old))
 counted-refusal Short n c ts old x r = absurd r
 counted-refusal Invalid n c ts old x r = absurd r
 counted-refusal Unready n c ts old x r = absurd r
@@ -55,22 +55,25 @@ counted-refusal Busy n c ts old x r = absurd r
 counted-refusal Malformed n c ts old x r = absurd r
 counted-refusal Unawaited n c ts old x r = absurd r
 counted-refusal (ChipError code) n c ts old x r = absurd r
-counted-refusal (LowestTimeout m) n c ts old x r = (sym r ∙ x .1 .0 .0, sym r ∙ x .1 .0 .1)
-counted-refusal (HighestTag m) n c ts old x r = (sym r ∙ x .1 .0 .0, sym r ∙ x .1 .0 .1)
-counted-refusal (NoLevel m) n c ts old x r = (sym r ∙ x .1 .0 .0, sym r ∙ x .1 .0 .1)
+counted-refusal (LowestTimeout m) n c ts old x r = ((sym r ∙ x .1 .0 .0, sym r ∙ x .1 .0 .1), x .0)
+counted-refusal (HighestTag m) n c ts old x r = ((sym r ∙ x .1 .0 .0, sym r ∙ x .1 .0 .1), x .0)
+counted-refusal (NoLevel m) n c ts old x r = ((sym r ∙ x .1 .0 .0, sym r ∙ x .1 .0 .1), x .0)
 counted-refusal NoBand n c ts old x r = absurd r
-counted-refusal (CalibrationError code m) n c ts old x r = (sym r ∙ x .1 .0 .0, sym r ∙ x .1 .0 .1)
+counted-refusal (CalibrationError code m) n c ts old x r = ((sym r ∙ x .1 .0 .0, sym r ∙ x .1 .0 .1), x .0)
 
-counted : (a : Answer) (n c : ℕ) (ts old : List Told) → SaysBy a c ts old → Reports a n → Counted n c ts
+counted : (a : Answer) (n c : ℕ) (ts old : List Told) → SaysBy a c ts old → Reports a n → Counted n c ts × (length ts ≡ suc (length old))
 counted Answer.Done n c ts old x r = absurd r
 counted (Answer.Sent m) n c ts old x r = absurd r
 counted Answer.More n c ts old x r = absurd r
 counted Answer.Good n c ts old x r = absurd r
-counted (Answer.Reference k m) n c ts old x r = (sym r ∙ x .1 .counted .0, sym r ∙ x .1 .counted .1)
+counted (Answer.Reference k m) n c ts old x r = ((sym r ∙ x .1 .counted .0, sym r ∙ x .1 .counted .1), x .0)
 counted (Answer.Refused k) n c ts old x r = counted-refusal k n c ts old x r
 
 pub counts : Counts
-counts e h w n r = counted (e .answer) n (commands (e ∷ h)) (answers (e ∷ h)) (answers h) (says-of e h w) r
+counts e h w n r = counted (e .answer) n (commands (e ∷ h)) (answers (e ∷ h)) (answers h) (says-of e h w) r .0
+
+pub answered : Answered
+answered e h w n r = counted (e .answer) n (commands (e ∷ h)) (answers (e ∷ h)) (answers h) (says-of e h w) r .1
 
 heeded-refusal : (k : Refusal) (c : ℕ) (ts old : List Told) → RefusedBy k c ts old → (length ts ≤ length old) ⊎ ((length ts ≡ suc (length old)) × TakenBy k)
 heeded-refusal Short c ts old x = inl x

@@ -100,6 +100,10 @@ Heeds =
     (e : Event) (h : List Event) → Newest e h →
     (length (answers (e ∷ h)) ≤ length (answers h)) ⊎ ((length (answers (e ∷ h)) ≡ suc (length (answers h))) × Takes (e .answer))
 
+-- an end that reports a count is never invented: an answer came with that very call
+abbrev pub Answered : Type 0
+Answered = (e : Event) (h : List Event) → Newest e h → (n : ℕ) → Reports (e .answer) n → length (answers (e ∷ h)) ≡ suc (length (answers h))
+
 -- ---- bytes consumed
 
 -- of the bytes fed since the newest command, however they are cut, those are consumed that the table says: through the reply's last, or
