@@ -4,11 +4,9 @@ ghost use Prim.Native.Nat.{_≤_};
 ghost use lib.ListN.{length};
 ghost use Rattle.model.specs.Frames.{readIdn, readProtocolSelect, readSendRecv, readIdle, readData, Reads};
 use model::Frame;
-use model::Pair;
 use model::Part;
 use model::Reading;
 use model::Refusal;
-use model::Settings;
 
 fn idn(body: &[u8]) -> Reading
     ensures { λ r. ⌜ r ≡ readIdn (now (body .entry)) ⌝ }
@@ -62,28 +60,7 @@ fn idle(body: &[u8]) -> Reading
     if body.len() != 14 {
         return Reading::Refused(Refusal::Invalid);
     }
-    let s = Settings {
-        source: body[0],
-        enter: Pair {
-            first: body[1],
-            second: body[2],
-        },
-        wake: Pair {
-            first: body[3],
-            second: body[4],
-        },
-        leave: Pair {
-            first: body[5],
-            second: body[6],
-        },
-        period: body[7],
-        osc: body[8],
-        dac: body[9],
-        low: body[10],
-        high: body[11],
-        swing: body[12],
-        sleep: body[13],
-    };
+    let s = settings::of_data(body);
     if settings::is_allowed(s) {
         return Reading::Taken(Frame::Idle { settings: s });
     }

@@ -28,7 +28,7 @@ use Rattle.model.specs.declared.Session.{Session}
 use Rattle.model.specs.declared.Answer.{Answer}
 use Rattle.model.specs.Words.{Pastes, Bytes, concat}
 use Rattle.model.specs.Contract.{Ran, OneAnswer, OneOutcome}
-use Rattle.model.specs.Frames.{Command, idleData, frame, allowed, wrapped, Transfer, write, readCommand, command, Writes, Reads, Receives, Flagged, Allows, Prescales}
+use Rattle.model.specs.Frames.{Command, idleData, frame, allowed, wrapped, Transfer, write, readCommand, command, Writes, Reads, Receives, Flagged, Gathers, Allows, Prescales}
 use Rattle.model.specs.Replies.{leastRoom, Reply, Meaning, meaning, reply, begun, feed, dataOf, Feeds, Chooses}
 use Rattle.model.specs.Refusals.{numberOf}
 use Rattle.model.specs.Calibration.{band, Sets, Hears, Guards}
@@ -180,6 +180,7 @@ pub record OneEach : Type 0 where
   pub reads : (xs : List ℕ) → OneAnswer (Reads xs)
   pub receives : (xs : List ℕ) → OneAnswer (Receives xs)
   pub flagged : (b : ℕ) → OneAnswer (Flagged b)
+  pub gathers : (xs : List ℕ) → OneAnswer (Gathers xs)
   pub allows : (s : Settings) → OneAnswer (Allows s)
   pub prescales : (w : ℕ) → OneAnswer (Prescales w)
   pub feeds : (p : Progress) (piece room : List ℕ) → OneOutcome (Feeds p piece room)
