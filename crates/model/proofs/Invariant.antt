@@ -127,7 +127,7 @@ abbrev pub SaysBy : Answer → ℕ → List Told → List Told → Type 0
 SaysBy Answer.Done c ts old = None ts old
 SaysBy (Answer.Sent n) c ts old = None ts old
 SaysBy Answer.More c ts old = None ts old
-SaysBy Answer.Good c ts old = None ts old ⊎ (One ts old × (c < 8))
+SaysBy Answer.Good c ts old = (length ts ≤ suc (length old)) × (One ts old → c < 8)
 SaysBy (Answer.Reference r n) c ts old = One ts old × Result r n c ts
 SaysBy (Answer.Refused k) c ts old = RefusedBy k c ts old
 
@@ -165,6 +165,10 @@ keep-pulse i (Selected protocol) c h v = record { few = v .few; live = v .live; 
 keep-pulse i (Waiting p selected) c h v = record { few = v .few; live = v .live; says = omega arith }
 keep-pulse i Lost c h v = record { few = v .few; live = v .live; says = omega arith }
 
+-- a session in which a calibration runs is busy
+pub not-free : {P : Type 0} (state : State) → (isWaiting state || true) ≡ false → P
+not-free state free = absurd (true≢false (sym (or-true (isWaiting state)) ∙ free))
+
 -- a request that is not refused finds no calibration
 keep-request : (i : Interface) (state : State) (c : Calibration) (x : Command) (out : List ℕ) (h : List Event) → Inv (made i state c) h
     → Keeps h (request x out) (step (made i state c) (request x out))
@@ -185,7 +189,7 @@ keep-request i state c x out h v =
     sent : (c : Calibration) → Inv (made i state c) h → busy (made i state c) ≡ false → (n : ℕ) (bs : List ℕ)
         → K (record { answer = outcome (awaiting (made i state c) x c) (Answer.Sent n); bytes = bs })
     sent Off v free n bs = record { few = v .few; live = v .live; says = omega arith }
-    sent (On plan found) v free n bs = absurd (true≢false (sym (or-true (isWaiting state)) ∙ free))
+    sent (On plan found) v free n bs = not-free state free
 
 keep-control : (s : Session) (h : List Event) (c : Call) (t : Transfer) (out : List ℕ) → Inv s h
     → ((a : Answer) (bs : List ℕ) → SaysBy a (commands h) (answers h) (answers h) → Keeps h c (record { answer = outcome s a; bytes = bs }))
@@ -484,7 +488,7 @@ module _ (found : Search) (p : Progress) (h : List Event) (ask : Asked found p (
             passes = subst (λ (us : List Told). T (tree (suc n) (given (search (found .commands) l)) us)) (sym answered) test;
           },
         );
-        says = inr (one, omega (arith, ask .sent));
+        says = omega (arith, one, ask .sent);
       }
   led plan i k place t (names r m) n e test =
       record {
@@ -590,11 +594,11 @@ keep-unasked s x xs room h v w =
 -- outside a calibration, whatever the piece comes to
 off-taken : (v : Verdict) (r : Fed) (i : Interface) (state : State) (a : Awaited) (selected : ℕ) (ps : List ℕ) (es : List Exchange) (before : List Told)
     → length es ≤ 8 → Settled es → None (answersIn es) before → Holds (takenBy v r (made i state Off) a selected ps) es before
-off-taken Verdict.More r i state a selected ps es before few d n = record { few = few; live = d; says = n }
-off-taken Verdict.Good r i state a selected ps es before few d n = record { few = few; live = d; says = inl n }
-off-taken (Verdict.Error code) r i state a selected ps es before few d n = record { few = few; live = d; says = n }
-off-taken Verdict.Malformed r i state a selected ps es before few d n = record { few = few; live = d; says = n }
-off-taken Verdict.NoRoom r i state a selected ps es before few d n = record { few = few; live = d; says = n }
+off-taken Verdict.More r i state a selected ps es before few d n = record { few = few; live = d; says = omega arith }
+off-taken Verdict.Good r i state a selected ps es before few d n = record { few = few; live = d; says = omega arith }
+off-taken (Verdict.Error code) r i state a selected ps es before few d n = record { few = few; live = d; says = omega arith }
+off-taken Verdict.Malformed r i state a selected ps es before few d n = record { few = few; live = d; says = omega arith }
+off-taken Verdict.NoRoom r i state a selected ps es before few d n = record { few = few; live = d; says = omega arith }
 
 -- in a calibration, by what the piece is read as
 module _ (plan : Plan) (found : Search) (i : Interface) (selected : ℕ) (h : List Event) where
@@ -622,19 +626,14 @@ module _ (plan : Plan) (found : Search) (i : Interface) (selected : ℕ) (h : Li
               heard = ask .heard;
               passes = ask .passes;
             };
-        says = none unfinished (not-yet (ask .source) q (ask .bytes ++ x ∷ xs) st) refl;
+        says =
+            omega (
+              arith,
+              ap length
+                  (ap (λ (u : Heard). answerBy u (found .level) (answersIn (ask .old))) (not-yet (ask .source) q (ask .bytes ++ x ∷ xs) st)
+                  ∙ sym (before-was found p h ask)),
+            );
       }
-    where
-      none : (w : Heard) → heardOf (ask .source) (ask .bytes ++ x ∷ xs) ≡ w → answerBy w (found .level) (answersIn (ask .old)) ≡ answersIn (ask .old)
-          → None (answersIn (exchange (ask .source) (found .level) (ask .bytes ++ x ∷ xs) ∷ ask .old)) (answers h)
-      none w e same =
-          omega (
-            arith,
-            ap length
-                (ap (λ (u : Heard). answerBy u (found .level) (answersIn (ask .old))) e
-                ∙ same
-                ∙ sym (before-was found p h ask)),
-          )
   on-taken p ask x xs room m (came j k f) =
       let e = getD (x ∷ xs) j 0 in
       let v : heardOf (ask .source) (ask .bytes ++ x ∷ xs) ≡ whole (saidOf (seen e)) = ask .stands (x ∷ xs) ∙ f ∙ ap whole (said-is e) in
@@ -693,7 +692,7 @@ keep-feed : (i : Interface) (state : State) (c : Calibration) (ps room : List �
     → Keeps h (feed ps room) (step (made i state c) (feed ps room))
 keep-feed i state c [] room h v =
     let s = made i state c in
-    let m : Ran Outcome = record { answer = outcome s Answer.More; bytes = room } in
+    let m = step s (feed [] room) in
     decide (ltb (length room) leastRoom)
     (λ e. put h (feed [] room) m (exchanges h) (short-kind [] room (exchanges h) e) (record { few = v .few; live = v .live; says = omega arith }))
     (λ e. put h (feed [] room) m (exchanges h) (fed-kind [] room (exchanges h) e ∙ fed-nothing (exchanges h)) (record { few = v .few; live = v .live; says = omega arith }))

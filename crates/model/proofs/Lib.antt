@@ -10,6 +10,7 @@ pub mod Invariant
 pub mod Consumed
 pub mod Owned
 pub mod Theorems
+pub mod Heeded
 pub mod Run
 pub mod Exactness
 pub mod Outcomes

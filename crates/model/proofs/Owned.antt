@@ -2,7 +2,7 @@
 -- Assumes nothing.
 use Prim.Native.Nat.{ℕ, _+_}
 use mathlib.Core.Path.{_≡_, refl, sym, ap, subst, _∙_}
-use mathlib.Core.Bool.{Bool, true, false, or-true, true≢false}
+use mathlib.Core.Bool.{Bool, true, false, true≢false}
 use mathlib.Core.List.{List, [], _∷_, _++_, append-nil}
 use lib.Dec.{ltb}
 use lib.ListN.{length}
@@ -25,10 +25,11 @@ use Rattle.model.specs.Contract.{Ran}
 use Rattle.model.specs.Frames.{idle, Transfer, send}
 use Rattle.model.specs.Replies.{leastRoom, feed as read-piece}
 use Rattle.model.specs.Calibration.{settingsAt, search}
-use Rattle.model.specs.Session.{made, powered, busy, isOff, unready, barred, isDue, isWaiting, isRunning, awaiting, takenBy, Call, power-on, pulse, request, reset, poll, read, calibrate, next, feed, step}
+use Rattle.model.specs.Session.{made, powered, busy, isOff, unready, barred, isDue, isRunning, awaiting, takenBy, Call, power-on, pulse, request, reset, poll, read, calibrate, next, feed, step}
 use Rattle.model.specs.History.{Event, Reached, event, turn, run, on, Exchange, exchangesBy, exchanges, piece, other, Latest, nothing, since, fedTo, latest}
 use Rattle.model.specs.Promises.{Own}
 use Rattle.model.proofs.Words.{ways}
+use Rattle.model.proofs.Invariant.{not-free}
 use Rattle.model.proofs.Consumed.{sent-or-not}
 
 -- the newest command is the one of the newest exchange
@@ -64,18 +65,14 @@ module _ (i : Interface) (state : State) (plan : Plan) (found : Search) (h : Lis
   abbrev running : Session
   running = made i state (On plan found)
 
-  -- a session in which a calibration runs is busy
-  not-free : {P : Type 0} → busy running ≡ false → P
-  not-free free = absurd (true≢false (sym (or-true (isWaiting state)) ∙ free))
-
   stays : (c : Call) → Stays h c (step running c)
   stays (power-on j) = tt
   stays pulse = v
-  stays (request c out) = ways (Stays h (request c out)) (busy running) (λ _. v) not-free
+  stays (request c out) = ways (Stays h (request c out)) (busy running) (λ _. v) (not-free state)
   stays (reset out) = sent-or-not (Stays h (reset out)) running Transfer.reset out (powered i) (λ n rest. tt) (λ k. v)
   stays (poll out) = sent-or-not (Stays h (poll out)) running Transfer.poll out running (λ n rest. v) (λ k. v)
   stays (read n out) = sent-or-not (Stays h (read n out)) running (Transfer.read n) out running (λ k rest. v) (λ k. v)
-  stays (calibrate again out) = ways (Stays h (calibrate again out)) (busy running) (λ _. v) not-free
+  stays (calibrate again out) = ways (Stays h (calibrate again out)) (busy running) (λ _. v) (not-free state)
   stays (next out) =
       ways (Stays h (next out)) (isDue state found)
       (λ _. sent-or-not (Stays h (next out)) running (send (idle (settingsAt plan (found .level)))) out
