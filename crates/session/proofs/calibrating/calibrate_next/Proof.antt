@@ -33,6 +33,13 @@ by-due : (s : Session) (out : List ℕ) (plan : Plan) (found : Search) (b : Bool
 by-due s out plan found b {r} {exit} e done =
     subst (λ (z : Bool). Is (pick z (testing s plan (record { commands = found .commands + 1; level = found .level }) out) (refuse s Refusal.Busy out)) r exit) e done
 
+-- a command that is given out is counted
+counted : (s : Session) (out : List ℕ) (plan : Plan) (found : Search) {n : ℕ} {r : Outcome} {exit : List ℕ}
+    → Is (testing s plan (record { commands = n; level = found .level }) out) r exit → n ≡ found .commands + 1
+    → Is (testing s plan (record { commands = found .commands + 1; level = found .level }) out) r exit
+counted s out plan found {n} {r} {exit} done e =
+    subst (λ (k : ℕ). Is (testing s plan (record { commands = k; level = found .level }) out) r exit) e done
+
 add-t12 : tie.Need-add-t12
 add-t12 c =
     let u = c .before .before in
@@ -54,7 +61,8 @@ returns-2 c =
     let known = told .calibration .given .0 in
     let a = told .before .before .before .args in
     by-calibration (a .s) (now (a .out)) (On (known .0) (known .1 .0)) (told .calibration .given .1)
-    (by-due (a .s) (now (a .out)) (known .0) (known .1 .0) true (sym (t .if1 .taken) ∙ u .is-due .ensures) (d .test .ensures))
+    (by-due (a .s) (now (a .out)) (known .0) (known .1 .0) true (sym (t .if1 .taken) ∙ u .is-due .ensures)
+    (counted (a .s) (now (a .out)) (known .0) (known .1 .0) (d .test .ensures) (omega arith)))
 
 returns-3 : tie.Need-returns-3
 returns-3 c =
