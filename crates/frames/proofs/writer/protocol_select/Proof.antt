@@ -3,12 +3,24 @@
 use borrow.Author.Needs.{needs}
 use borrow.Author.Tests.{le-leb, lt-leb}
 use native.Mathlib.Omega.{arith}
-use native.Mathlib.Numerals.{add-one}
-use mathlib.Core.Path.{refl}
+use Prim.Native.Nat.{ℕ}
+use mathlib.Core.Path.{_≡_, refl, subst}
+use mathlib.Core.List.{List, [], _∷_}
 use lib.ListN.{length}
 use denote.Ref.{now}
+use Rattle.model.specs.declared.Interface.{Interface}
+use Rattle.model.specs.declared.Written.{Written}
+use Rattle.model.specs.Contract.{Is}
+use Rattle.model.specs.Frames.{Command, frame, wrapped, laid}
 use Rattle.frames.proofs.writer.protocol_select.Statement.{statement}
 use Rattle.frames.proofs.writer.protocol_select.Tie as tie
+
+-- a frame whose length byte counts the protocol and its parameters
+counted : (i : Interface) (protocol : ℕ) (parameters out : List ℕ) {n : ℕ} {r : Written} {exit : List ℕ}
+    → Is (laid (wrapped i (0x02 ∷ n ∷ protocol ∷ parameters)) out) r exit → n ≡ length (protocol ∷ parameters)
+    → Is (laid (wrapped i (frame (Command.protocolSelect protocol parameters))) out) r exit
+counted i protocol parameters out {n} {r} {exit} done e =
+    subst (λ (k : ℕ). Is (laid (wrapped i (0x02 ∷ k ∷ protocol ∷ parameters)) out) r exit) e done
 
 returns : tie.Need-returns
 returns c =
@@ -43,7 +55,7 @@ returns-4 c =
       le-leb 1 count (omega (arith, e .before .if2 .left)),
       le-leb count 8 (omega (arith, e .if3 .left)),
     )
-    (rw (add-one count) at (sent .send .ensures))
+    (counted (a .interface) (a .protocol) (now (a .parameters)) (now (a .out)) (sent .send .ensures) (omega arith))
 
 pub protocol-select-spec : {M : Type 1} → statement M
 protocol-select-spec =
