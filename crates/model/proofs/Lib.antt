@@ -1,3 +1,4 @@
+pub mod Computed
 pub mod Words
 pub mod Frames
 pub mod Table

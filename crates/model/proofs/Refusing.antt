@@ -8,7 +8,7 @@ use mathlib.Core.Logic.{_↔_, _⊎_, inl, inr, ⊎-elim}
 use mathlib.Core.List.{List, [], _∷_, _++_, List·Memᴰ, List·Memᴰ·head, List·Memᴰ·tail, List·Memᴰ·cases-cons, List·Memᴰ·not-nil}
 use lib.Dec.{T, eqb, leb, ltb, leb·zero}
 use lib.ListN.{length}
-use borrow.Author.Tests.{ltb-true, ltb-false, leb-true, leb-false, le-leb, lt-leb, eq-eqb, ne-eqb, eqb-true, eqb-false, le-ltb, lt-ltb}
+use borrow.Author.Tests.{ltb-true, ltb-false, leb-true, leb-false, le-leb, lt-leb, ne-eqb, eqb-true, eqb-false}
 use Rattle.model.specs.declared.Interface.{Interface}
 use Rattle.model.specs.declared.Refusal.{Refusal}
 use Rattle.model.specs.declared.Refusal.the-variants.{NoBand}
@@ -43,20 +43,15 @@ use Rattle.model.specs.declared.Outcome.{Outcome}
 use Rattle.model.specs.Words.{pick}
 use Rattle.model.specs.Contract.{Ran}
 use Rattle.model.specs.Refusals.{numberOf}
-use Rattle.model.specs.Frames.{Command, idle, sourceAllowed, allowed, Transfer, send, bytes, permitted, wrapped, frame, laid, write}
+use Rattle.model.specs.Frames.{Command, idn, protocolSelect, sendRecv, idle, echo, sourceAllowed, allowed, Transfer, send, bytes, permitted}
 use Rattle.model.specs.Replies.{leastRoom, firstOf as firstOf′, secondOf, wakes, with, fedClose, fedEvent, fedData, fedBySecond, fedCount, fedByFirst, fedPhase}
 use Rattle.model.specs.Calibration.{settingsAt, search, heard, tagged, timedOut, band}
 use Rattle.model.specs.Session.{made, outcome, refuse, busy, isOff, unready, barred, awaiting, sentBy, sending, testing, isDue, eventIn, seen, afterGood, ended, turned, good, takenBy, taken, Call, power-on, pulse, request, reset, poll, read, calibrate, next, feed, step}
-use Rattle.model.specs.Checks.{Number, none, number, numbered, First, condition, order, isMild, lent, isMalformed, isError, isGood, sees, nextDue}
+use Rattle.model.specs.Checks.{Number, none, number, numbered, firstOf, First, condition, order, isMild, lent, isMalformed, isError, isGood, sees, away, unselected, closed, selectsOne, outOfPlace, isReady}
 use Rattle.model.specs.Claims.{Exactly, Untouched, BandRefused, Sends}
 use Rattle.model.proofs.Words.{ways, each}
 
 -- ---- the first in an order, of any conditions
-
--- the first number in an order whose condition holds
-abbrev firstOf : (ℕ → Bool) → List ℕ → Number
-firstOf holds [] = none
-firstOf holds (k ∷ ks) = pick (holds k) (number k) (firstOf holds ks)
 
 no-number : (k : ℕ) → none ≡ number k → ⊥
 no-number k e = let z : _≡_ {A = ℕ} 0 1 = cc in omega arith
@@ -98,12 +93,40 @@ agree-sent s t out after =
     (λ p. decide (ltb (length out) (length (bytes (s .interface) t))) (λ l. simp (p, l)) (λ l. simp (p, l)))
     (λ p. simp p)
 
+-- two tests agree if they do in every state
+in-every : (p q : State → Bool) → p PowerUp ≡ q PowerUp → p Ready ≡ q Ready → ((n : ℕ) → p (Selected n) ≡ q (Selected n))
+    → ((r : Progress) (n : ℕ) → p (Waiting r n) ≡ q (Waiting r n)) → p Lost ≡ q Lost → (state : State) → p state ≡ q state
+in-every p q a b d e f PowerUp = a
+in-every p q a b d e f Ready = b
+in-every p q a b d e f (Selected n) = d n
+in-every p q a b d e f (Waiting r n) = e r n
+in-every p q a b d e f Lost = f
+
+-- the session's tests are those of the table
+unready-is : (c : Command) (state : State) → unready state c ≡ closed c state
+unready-is idn = in-every (λ z. unready z idn) away refl refl (λ _. refl) (λ _ _. refl) refl
+unready-is (protocolSelect protocol parameters) = in-every (λ z. unready z (protocolSelect protocol parameters)) away refl refl (λ _. refl) (λ _ _. refl) refl
+unready-is (sendRecv payload) = in-every (λ z. unready z (sendRecv payload)) unselected refl refl (λ _. refl) (λ _ _. refl) refl
+unready-is (idle s) = in-every (λ z. unready z (idle s)) away refl refl (λ _. refl) (λ _ _. refl) refl
+unready-is echo = in-every (λ z. unready z echo) away refl refl (λ _. refl) (λ _ _. refl) refl
+
+barred-is : (c : Command) (state : State) → barred state c ≡ outOfPlace c state
+barred-is idn state = refl
+barred-is (protocolSelect protocol parameters) state = refl
+barred-is (sendRecv []) state = in-every (λ z. barred z (sendRecv [])) (λ z. not (selectsOne z)) refl refl (λ _. refl) (λ _ _. refl) refl state
+barred-is (sendRecv (x ∷ xs)) state = refl
+barred-is (idle s) state = refl
+barred-is echo state = refl
+
+due-is : (found : Search) (state : State) → isDue state found ≡ (isReady state && ltb (found .commands) 8)
+due-is found = in-every (λ z. isDue z found) (λ z. isReady z && ltb (found .commands) 8) refl refl (λ _. refl) (λ _ _. refl) refl
+
 agree-request : (s : Session) (c : Command) (out : List ℕ) → Agree s (request c out)
 agree-request s c out =
     decide (busy s) (λ b. simp b)
-    (λ b. decide (unready (s .state) c) (λ u. simp (b, u))
-    (λ u. decide (barred (s .state) c) (λ r. simp (b, u, r))
-    (λ r. simp (b, u, r) (agree-sent s (send c) out (awaiting s c (s .calibration))))))
+    (λ b. decide (unready (s .state) c) (λ u. simp (b, u, sym (unready-is c (s .state)) ∙ u))
+    (λ u. decide (barred (s .state) c) (λ r. simp (b, u, r, sym (unready-is c (s .state)) ∙ u, sym (barred-is c (s .state)) ∙ r))
+    (λ r. simp (b, u, r, sym (unready-is c (s .state)) ∙ u, sym (barred-is c (s .state)) ∙ r) (agree-sent s (send c) out (awaiting s c (s .calibration))))))
 
 -- a calibration's command is always allowed
 holds : (b : Bool) → T b → b ≡ true
@@ -133,7 +156,9 @@ agree-calibrate s plan out =
 agree-next : (i : Interface) (state : State) (c : Calibration) (out : List ℕ) → Agree (made i state c) (next out)
 agree-next i state Off out = refl
 agree-next i state (On plan found) out =
-    decide (isDue state found) (λ d. simp d (agree-tested (made i state (On plan found)) plan (found .level) out _)) (λ d. simp d)
+    decide (isDue state found)
+    (λ d. simp (d, sym (due-is found state) ∙ d) (agree-tested (made i state (On plan found)) plan (found .level) out _))
+    (λ d. simp (d, sym (due-is found state) ∙ d))
 
 -- ---- a piece
 
@@ -355,9 +380,14 @@ untouched s (feed piece room) = mild-feed (s .interface) (s .state) (s .calibrat
 
 -- ---- good requests, and the guard band
 
+neither : (a b : Bool) → (a || b) ≡ false → (a ≡ false) × (b ≡ false)
+neither true b e = absurd (true≢false e)
+neither false b e = (refl, e)
+
 pub sends : Sends
-sends s c out b u r a room =
-    simp (b, u, r, a, le-ltb (length out) (length (wrapped (s .interface) (frame c))) room)
+sends s c out b u r l =
+    let (fits, fields) = neither (outOfPlace c (s .state)) (not (allowed c)) r in
+    decide (allowed c) (λ a. simp (b, unready-is c (s .state) ∙ u, barred-is c (s .state) ∙ fits, a, l)) (λ a. absurd (true≢false (sym (ap not a) ∙ fields)))
 
 -- the three tests, as one
 band-by : (r : ℕ) → (leb 0x08 r && leb r 0xF4 && eqb (r % 4) 0) ≡ false → (r < 0x08) ⊎ ((0xF4 < r) ⊎ (r % 4 ≡ 0 → ⊥))

@@ -22,10 +22,10 @@ use Rattle.model.specs.declared.Session.{Session}
 use Rattle.model.specs.declared.Answer.{Answer}
 use Rattle.model.specs.Words.{pick}
 use Rattle.model.specs.Refusals.{numberOf}
-use Rattle.model.specs.Frames.{Command, idn, idle, allowed, Transfer, send, bytes, permitted}
+use Rattle.model.specs.Frames.{Command, idn, protocolSelect, sendRecv, idle, echo, allowed, Transfer, send, bytes, permitted}
 use Rattle.model.specs.Replies.{leastRoom}
 use Rattle.model.specs.Calibration.{settingsAt}
-use Rattle.model.specs.Session.{isWaiting, isRunning, busy, isOff, unready, barred, isDue, eventIn, seen, Call, power-on, pulse, request, reset, poll, read, calibrate, next, feed}
+use Rattle.model.specs.Session.{isWaiting, isRunning, eventIn, seen, Call, power-on, pulse, request, reset, poll, read, calibrate, next, feed}
 
 -- ---- 1
 
@@ -51,11 +51,28 @@ short s (feed piece room) = ltb (length room) leastRoom
 
 -- ---- 2
 
+-- protocol 1 is selected
+abbrev pub selectsOne : State → Bool
+selectsOne PowerUp = false
+selectsOne Ready = false
+selectsOne (Selected protocol) = eqb protocol 1
+selectsOne (Waiting progress selected) = false
+selectsOne Lost = false
+
+-- SendRecv with n = 0, and protocol 1 is not selected
+abbrev pub outOfPlace : Command → State → Bool
+outOfPlace idn state = false
+outOfPlace (protocolSelect protocol parameters) state = false
+outOfPlace (sendRecv []) state = not (selectsOne state)
+outOfPlace (sendRecv (x ∷ xs)) state = false
+outOfPlace (idle s) state = false
+outOfPlace echo state = false
+
 -- a field rule is broken, a prescaler is above 3, a read is not of 1 to 257 bytes, or reset, poll or read on UART
 abbrev pub invalid : Session → Call → Bool
 invalid s (power-on i) = false
 invalid s pulse = false
-invalid s (request c out) = barred (s .state) c || not (allowed c)
+invalid s (request c out) = outOfPlace c (s .state) || not (allowed c)
 invalid s (reset out) = not (permitted (s .interface) Transfer.reset)
 invalid s (poll out) = not (permitted (s .interface) Transfer.poll)
 invalid s (read n out) = not (permitted (s .interface) (Transfer.read n))
@@ -65,33 +82,69 @@ invalid s (feed piece room) = false
 
 -- ---- 3
 
+-- the state is Power-up or Lost
+abbrev pub away : State → Bool
+away PowerUp = true
+away Ready = false
+away (Selected protocol) = false
+away (Waiting progress selected) = false
+away Lost = true
+
+-- the state is another than Selected
+abbrev pub unselected : State → Bool
+unselected PowerUp = true
+unselected Ready = true
+unselected (Selected protocol) = false
+unselected (Waiting progress selected) = true
+unselected Lost = true
+
+-- SendRecv is taken in Selected, every other request in Ready too
+abbrev pub closed : Command → State → Bool
+closed idn state = away state
+closed (protocolSelect protocol parameters) state = away state
+closed (sendRecv payload) state = unselected state
+closed (idle s) state = away state
+closed echo state = away state
+
 -- the state is Power-up or Lost, or SendRecv outside Selected
 abbrev pub off : Session → Call → Bool
 off s (power-on i) = false
 off s pulse = false
-off s (request c out) = unready (s .state) c
+off s (request c out) = closed c (s .state)
 off s (reset out) = false
 off s (poll out) = false
 off s (read n out) = false
-off s (calibrate plan out) = isOff (s .state)
+off s (calibrate plan out) = away (s .state)
 off s (next out) = false
 off s (feed piece room) = false
 
 -- ---- 4
 
+abbrev pub isReady : State → Bool
+isReady PowerUp = false
+isReady Ready = true
+isReady (Selected protocol) = false
+isReady (Waiting progress selected) = false
+isReady Lost = false
+
+-- the answer to the command before is in, which leaves Ready, and eight were not given out
 abbrev pub nextDue : Calibration → State → Bool
 nextDue Off state = false
-nextDue (On plan found) state = isDue state found
+nextDue (On plan found) state = isReady state && ltb (found .commands) 8
+
+-- a reply is awaited or a calibration runs
+abbrev pub occupied : Session → Bool
+occupied s = isWaiting (s .state) || isRunning (s .calibration)
 
 -- a request or a start of calibration comes while a reply is awaited or a calibration runs, or its next command is asked for when none is due
 abbrev pub engaged : Session → Call → Bool
 engaged s (power-on i) = false
 engaged s pulse = false
-engaged s (request c out) = busy s
+engaged s (request c out) = occupied s
 engaged s (reset out) = false
 engaged s (poll out) = false
 engaged s (read n out) = false
-engaged s (calibrate plan out) = busy s
+engaged s (calibrate plan out) = occupied s
 engaged s (next out) = not (nextDue (s .calibration) (s .state))
 engaged s (feed piece room) = false
 
@@ -223,6 +276,11 @@ numbered Answer.More = none
 numbered Answer.Good = none
 numbered (Answer.Reference reference commands) = none
 numbered (Answer.Refused k) = number (numberOf k)
+
+-- the first number in an order whose condition holds
+abbrev pub firstOf : (ℕ → Bool) → List ℕ → Number
+firstOf holds [] = none
+firstOf holds (k ∷ ks) = pick (holds k) (number k) (firstOf holds ks)
 
 -- k stands in the order, its condition holds, and that of none before it does
 abbrev pub First : ℕ → (ℕ → Bool) → List ℕ → Type 0

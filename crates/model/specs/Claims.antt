@@ -32,8 +32,8 @@ use Rattle.model.specs.Frames.{Command, idleData, frame, allowed, wrappe
 use Rattle.model.specs.Replies.{leastRoom, Reply, Meaning, meaning, reply, begun, feed, dataOf, Feeds, Chooses}
 use Rattle.model.specs.Refusals.{numberOf}
 use Rattle.model.specs.Calibration.{band, Sets, Hears, Guards}
-use Rattle.model.specs.Session.{Call, request, busy, unready, barred, awaiting, outcome, refuse, step, Meets, Unpowered}
-use Rattle.model.specs.Checks.{condition, order, Number, number, numbered, First, lent, isMild}
+use Rattle.model.specs.Session.{Call, request, awaiting, outcome, refuse, step, Meets, Unpowered}
+use Rattle.model.specs.Checks.{short, invalid, off, engaged, condition, order, Number, number, numbered, First, lent, isMild}
 use Rattle.model.specs.Times.{ticks, times, tTO, exactly, Timed, Waits}
 
 -- ---- demand 1: refusals
@@ -59,7 +59,7 @@ BandRefused = (r : ℕ) → (band r ≡ Guard.Refused NoBand) ↔ ((r < 0x08) �
 abbrev pub Sends : Type 0
 Sends =
     (s : Session) (c : Command) (out : List ℕ) →
-    busy s ≡ false → unready (s .state) c ≡ false → barred (s .state) c ≡ false → allowed c ≡ true → length (wrapped (s .interface) (frame c)) ≤ length out →
+    engaged s (request c out) ≡ false → off s (request c out) ≡ false → invalid s (request c out) ≡ false → short s (request c out) ≡ false →
     step s (request c out) ≡
     record {
       answer = outcome (awaiting s c (s .calibration)) (Answer.Sent (length (wrapped (s .interface) (frame c))));
