@@ -1,90 +1,86 @@
--- What a call that writes comes to, by its leave and by what was written.
+-- What a call that writes comes to, by its leave, by what is due and by what was written.
 -- Assumes nothing.
-use Prim.Native.Nat.{ℕ, _<_}
+use Prim.Native.Nat.{ℕ}
 use native.Mathlib.Omega.{arith}
-use mathlib.Core.Path.{_≡_, refl, sym, ap₂, _∙_, subst}
-use mathlib.Core.Bool.{Bool, true, false, _||_}
+use mathlib.Core.Path.{_≡_, refl, sym, ap, ap₂, _∙_, subst}
+use mathlib.Core.Bool.{Bool, true, false}
 use mathlib.Core.List.{List, [], _∷_}
-use lib.Dec.{T}
+use lib.Dec.{ltb}
 use lib.ListN.{length}
-use borrow.Author.Tests.{ltb-true}
 use Rattle.model.specs.declared.Refusal.{Refusal}
 use Rattle.model.specs.declared.Written.{Written}
-use Rattle.model.specs.declared.Search.{Search}
-use Rattle.model.specs.declared.State.{State}
-use Rattle.model.specs.declared.State.the-variants.{PowerUp, Ready, Selected, Waiting, Lost}
+use Rattle.model.specs.declared.Plan.{Plan}
+use Rattle.model.specs.declared.Calibration.{Calibration}
+use Rattle.model.specs.declared.Calibration.the-variants.{Off, On}
 use Rattle.model.specs.declared.Session.{Session}
 use Rattle.model.specs.declared.Answer.{Answer}
 use Rattle.model.specs.declared.Outcome.{Outcome}
 use Rattle.model.specs.Words.{pick}
 use Rattle.model.specs.Contract.{Ran, Is}
-use Rattle.model.specs.Frames.{Transfer, Writes}
-use Rattle.model.specs.Session.{outcome, refuse, busy, isOff, isEmpty, sentBy, sending, isDue, pieceBy, fed}
-use Rattle.session.specs.declared.states.Leave.{Leave}
-use Rattle.session.specs.declared.states.Leave.the-variants.{Given}
+use Rattle.model.specs.Frames.{Command, Transfer, send, Writes}
+use Rattle.model.specs.Session.{outcome, refuse, busy, isOff, unready, barred, awaiting, sentBy, sending, requested, started, isDue, continued, pieceBy, fed}
+use Rattle.states.specs.declared.Leave.{Leave}
+use Rattle.states.specs.declared.Leave.the-variants.{Given}
+use Rattle.states.specs.declared.due.Due.{Due}
+use Rattle.states.specs.Leave.{toRequest}
+use Rattle.states.specs.Due.{firstDue, nextDue, tested}
 
--- ---- leave
-
--- a call that has leave runs
-abbrev pub byLeave : Leave → Session → List ℕ → Ran Outcome → Ran Outcome
-byLeave Given s out ran = ran
-byLeave (Leave.Refused k) s out ran = refuse s k out
-
-module _ (s : Session) (out : List ℕ) (ran : Ran Outcome) {r : Outcome} {exit : List ℕ} (x y : Leave) (e : x ≡ y) where
-  -- 4, 3, 2
-  pub by-three : (a b d : Bool) → x ≡ pick a (Leave.Refused Refusal.Busy) (pick b (Leave.Refused Refusal.Unready) (pick d (Leave.Refused Refusal.Invalid) Given))
-      → Is (byLeave y s out ran) r exit
-      → Is (pick a (refuse s Refusal.Busy out) (pick b (refuse s Refusal.Unready out) (pick d (refuse s Refusal.Invalid out) ran))) r exit
-  by-three true b d f done = subst (λ (z : Leave). Is (byLeave z s out ran) r exit) (sym e ∙ f) done
-  by-three false true d f done = subst (λ (z : Leave). Is (byLeave z s out ran) r exit) (sym e ∙ f) done
-  by-three false false true f done = subst (λ (z : Leave). Is (byLeave z s out ran) r exit) (sym e ∙ f) done
-  by-three false false false f done = subst (λ (z : Leave). Is (byLeave z s out ran) r exit) (sym e ∙ f) done
-
-  -- 4, 3
-  pub by-two : (a b : Bool) → x ≡ pick a (Leave.Refused Refusal.Busy) (pick b (Leave.Refused Refusal.Unready) Given)
-      → Is (byLeave y s out ran) r exit → Is (pick a (refuse s Refusal.Busy out) (pick b (refuse s Refusal.Unready out) ran)) r exit
-  by-two a b f done = by-three a b false f done
-
-  -- a command that needs no protocol
-  pub asked : x ≡ pick (busy s) (Leave.Refused Refusal.Busy) (pick (isOff (s .state)) (Leave.Refused Refusal.Unready) Given)
-      → Is (byLeave y s out ran) r exit
-      → Is (pick (busy s) (refuse s Refusal.Busy out) (pick (isOff (s .state) || false) (refuse s Refusal.Unready out) ran)) r exit
-  asked f done =
-      subst (λ (b : Bool). Is (pick (busy s) (refuse s Refusal.Busy out) (pick b (refuse s Refusal.Unready out) ran)) r exit) (or-false (isOff (s .state)))
-      (by-two (busy s) (isOff (s .state)) f done)
-    where
-      or-false : (b : Bool) → b ≡ (b || false)
-      or-false true = refl
-      or-false false = refl
+-- what is done of the first or of the second is the first or the second of what is done
+through : {A : Type 0} {B : Type 0} (f : A → B) (b : Bool) (x y : A) {z : B} → f y ≡ z → f (pick b x y) ≡ pick b (f x) z
+through f true x y e = refl
+through f false x y e = e
 
 -- ---- what was written
 
-pub sends : (s : Session) (t : Transfer) (out : List ℕ) (next : Session) (w : Written) (n : Session) {r : Outcome} {exit : List ℕ}
-    → r ≡ sentBy w s n → Writes (s .interface) t out w exit → n ≡ next → Is (sending s t out next) r exit
-sends s t out next w n e written f = record { answer = e ∙ ap₂ (λ (v : Written) (m : Session). sentBy v s m) (written .answer) f; bytes = written .bytes }
+pub sends : (s : Session) (t : Transfer) (out : List ℕ) (next : Session) {w : Written} {n : Session} {r : Outcome} {exit : List ℕ}
+    → Writes (s .interface) t out w exit → n ≡ next → r ≡ sentBy w s n → Is (sending s t out next) r exit
+sends s t out next written f e = record { answer = e ∙ ap₂ (λ (v : Written) (m : Session). sentBy v s m) (written .answer) f; bytes = written .bytes }
 
--- ---- what is due
+-- ---- requests
 
-no : false ≡ true → ⊥
-no e = subst T (sym e) tt
+module _ (s : Session) (c : Command) (out : List ℕ) where
+  -- a request that has leave is sent
+  abbrev led : Leave → Ran Outcome
+  led Given = sending s (send c) out (awaiting s c (s .calibration))
+  led (Leave.Refused k) = refuse s k out
 
--- a calibration gives out no more than eight commands
-pub due : (state : State) (found : Search) → isDue state found ≡ true → found .commands < 8
-due PowerUp found e = absurd (no e)
-due Ready found e = ltb-true (found .commands) 8 e
-due (Selected protocol) found e = absurd (no e)
-due (Waiting progress selected) found e = absurd (no e)
-due Lost found e = absurd (no e)
+  by-leave : {leave : Leave} {r : Outcome} {exit : List ℕ} (l : Leave) → leave ≡ toRequest s c → leave ≡ l → Is (led l) r exit → Is (requested s c out) r exit
+  by-leave {leave} {r} {exit} l e f done =
+      subst (λ (m : Ran Outcome). Is m r exit)
+      (ap led (sym f ∙ e) ∙ through led (busy s) _ _ (through led (unready (s .state) c) _ _ (through led (barred (s .state) c) _ _ refl))) done
 
--- ---- bytes that are not there
+  pub refuses : {leave : Leave} {k : Refusal} {r : Outcome}
+      → leave ≡ toRequest s c → leave ≡ Leave.Refused k → r ≡ outcome s (Answer.Refused k) → Is (requested s c out) r out
+  refuses e f done = by-leave (Leave.Refused _) e f (record { answer = done; bytes = refl })
 
-pub empty : (xs : List ℕ) → length xs ≡ 0 → isEmpty xs ≡ true
-empty [] e = refl
-empty (x ∷ xs) e = absurd (omega arith)
+  pub asks : {leave : Leave} {w : Written} {r : Outcome} {exit : List ℕ}
+      → leave ≡ toRequest s c → leave ≡ Given → Writes (s .interface) (send c) out w exit → r ≡ sentBy w s (awaiting s c (s .calibration))
+      → Is (requested s c out) r exit
+  asks e f written done = by-leave Given e f (sends s (send c) out (awaiting s c (s .calibration)) written refl done)
 
-pub not-empty : (xs : List ℕ) → (length xs ≡ 0 → ⊥) → isEmpty xs ≡ false
-not-empty [] n = absurd (n refl)
-not-empty (x ∷ xs) n = refl
+-- ---- calibration
+
+module _ (s : Session) (out : List ℕ) where
+  abbrev test : Due → Ran Outcome
+  test due = tested due s out
+
+  -- what is due, and what is done about it
+  pub by-due : {due : Due} {m : Ran Outcome} {r : Outcome} {exit : List ℕ} (d : Due) → due ≡ d → test due ≡ m → Is (test d) r exit → Is m r exit
+  by-due {due} {m} {r} {exit} d e f done = subst (λ (z : Ran Outcome). Is z r exit) (ap test (sym e) ∙ f) done
+
+  pub starts : (plan : Plan) {due : Due} {r : Outcome} {exit : List ℕ} → due ≡ firstDue s plan → Is (tested due s out) r exit → Is (started s plan out) r exit
+  starts plan {due} e done =
+      by-due due (sym e) (through test (busy s) _ _ (through test (isOff (s .state)) _ _ (through test (ltb 3 (plan .prescaler)) _ _ refl))) done
+
+  pub continues : {due : Due} {r : Outcome} {exit : List ℕ}
+      → due ≡ nextDue (s .calibration) (s .state) → Is (tested due s out) r exit → Is (continued (s .calibration) s out) r exit
+  continues {due} e done = by-due due (sym e) (by-calibration (s .calibration)) done
+    where
+      by-calibration : (k : Calibration) → tested (nextDue k (s .state)) s out ≡ continued k s out
+      by-calibration Off = refl
+      by-calibration (On plan found) = through test (isDue (s .state) found) _ _ refl
+
+-- ---- pieces
 
 module _ (s : Session) (room : List ℕ) where
   pub fed-none : (xs : List ℕ) → length xs ≡ 0 → record { answer = outcome s Answer.More; bytes = room } ≡ fed s xs room

@@ -1,25 +1,25 @@
 // Commands, and the reset, poll and read of SPI: the bytes to be sent, and the session once they are.
 ghost use Rattle.model.specs.Frames.{Command};
 ghost use Rattle.model.specs.Session.{Call, Meets};
-use crate::answers;
-use crate::states;
-use crate::states::Leave;
 use frames::spi;
 use frames::writer;
 use model::Awaited;
 use model::Outcome;
 use model::Session;
 use model::Settings;
+use states::Leave;
+use states::answers;
 
 pub fn idn(s: Session, out: &mut [u8]) -> Outcome
     ensures { λ r. ⌜ Meets s (Call.request Command.idn (now (out .entry))) r (now (out .exit)) ⌝ }
 {
     let interface = s.interface;
+    let calibration = s.calibration;
     match states::leave_to_ask(s) {
         Leave::Refused(refusal) => answers::refused(s, refusal),
         Leave::Given => {
-            let next = answers::awaiting(s, Awaited::Idn);
-            answers::sent(writer::idn(interface, out), s, next)
+            let written = writer::idn(interface, out);
+            answers::asked(s, Awaited::Idn, calibration, written)
         }
     }
 }
@@ -28,12 +28,17 @@ pub fn protocol_select(s: Session, protocol: u8, parameters: &[u8], out: &mut [u
     ensures { λ r. ⌜ Meets s (Call.request (Command.protocolSelect protocol (now (parameters .entry))) (now (out .entry))) r (now (out .exit)) ⌝ }
 {
     let interface = s.interface;
+    let calibration = s.calibration;
     match states::leave_to_ask(s) {
         Leave::Refused(refusal) => answers::refused(s, refusal),
         Leave::Given => {
-            let next = answers::awaiting(s, Awaited::ProtocolSelect { protocol });
             let written = writer::protocol_select(interface, protocol, parameters, out);
-            answers::sent(written, s, next)
+            answers::asked(
+                s,
+                Awaited::ProtocolSelect { protocol },
+                calibration,
+                written,
+            )
         }
     }
 }
@@ -42,11 +47,12 @@ pub fn send_recv(s: Session, payload: &[u8], out: &mut [u8]) -> Outcome
     ensures { λ r. ⌜ Meets s (Call.request (Command.sendRecv (now (payload .entry))) (now (out .entry))) r (now (out .exit)) ⌝ }
 {
     let interface = s.interface;
+    let calibration = s.calibration;
     match states::leave_to_exchange(s, payload) {
         Leave::Refused(refusal) => answers::refused(s, refusal),
         Leave::Given => {
-            let next = answers::awaiting(s, Awaited::SendRecv);
-            answers::sent(writer::send_recv(interface, payload, out), s, next)
+            let written = writer::send_recv(interface, payload, out);
+            answers::asked(s, Awaited::SendRecv, calibration, written)
         }
     }
 }
@@ -55,12 +61,13 @@ pub fn idle(s: Session, settings: Settings, out: &mut [u8]) -> Outcome
     ensures { λ r. ⌜ Meets s (Call.request (Command.idle settings) (now (out .entry))) r (now (out .exit)) ⌝ }
 {
     let interface = s.interface;
+    let calibration = s.calibration;
     let source = settings.source;
     match states::leave_to_ask(s) {
         Leave::Refused(refusal) => answers::refused(s, refusal),
         Leave::Given => {
-            let next = answers::awaiting(s, Awaited::Idle { source });
-            answers::sent(writer::idle(interface, settings, out), s, next)
+            let written = writer::idle(interface, settings, out);
+            answers::asked(s, Awaited::Idle { source }, calibration, written)
         }
     }
 }
@@ -69,11 +76,12 @@ pub fn echo(s: Session, out: &mut [u8]) -> Outcome
     ensures { λ r. ⌜ Meets s (Call.request Command.echo (now (out .entry))) r (now (out .exit)) ⌝ }
 {
     let interface = s.interface;
+    let calibration = s.calibration;
     match states::leave_to_ask(s) {
         Leave::Refused(refusal) => answers::refused(s, refusal),
         Leave::Given => {
-            let next = answers::awaiting(s, Awaited::Echo);
-            answers::sent(writer::echo(interface, out), s, next)
+            let written = writer::echo(interface, out);
+            answers::asked(s, Awaited::Echo, calibration, written)
         }
     }
 }
