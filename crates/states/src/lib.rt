@@ -2,13 +2,10 @@
 pub mod answers;
 pub mod due;
 
-ghost use mathlib.Core.Bool.{not, _&&_};
 ghost use mathlib.Core.Path.{_≡_};
-ghost use lib.Dec.{eqb};
-ghost use Rattle.model.specs.Words.{pick};
 ghost use Rattle.model.specs.Frames.{Command};
-ghost use Rattle.model.specs.Session.{pulsed, isWaiting, isRunning, busy, isOff, protocolOf, isEmpty};
-ghost use Rattle.states.specs.Leave.{toRequest};
+ghost use Rattle.model.specs.Session.{pulsed, isWaiting, isRunning, busy, isOff, protocolOf};
+ghost use Rattle.states.specs.Leave.{byState, toRequest};
 use model::Calibration;
 use model::Refusal;
 use model::Session;
@@ -119,7 +116,7 @@ pub fn leave_to_ask(s: Session) -> Leave
 
 // An empty exchange is for protocol 1 alone.
 fn leave_with(protocol: u8, payload: &[u8]) -> Leave
-    ensures { λ r. ⌜ r ≡ pick (isEmpty (now (payload .entry)) && not (eqb protocol 1)) (Leave.Refused Refusal.Invalid) Leave.Given ⌝ }
+    ensures { λ r. ⌜ r ≡ byState (State.Selected protocol) (Command.sendRecv (now (payload .entry))) ⌝ }
 {
     if payload.len() != 0 {
         return Leave::Given;
