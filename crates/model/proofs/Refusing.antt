@@ -1,14 +1,14 @@
 -- Each refusal is given exactly where the table says, and the mild ones leave everything as it was.
 -- Assumes nothing.
-use Prim.Native.Nat.{ℕ, _+_, _-_, _*_, _%_, _≤_, _<_}
+use Prim.Native.Nat.{ℕ, _+_, _-_, _*_, _%_, _<_}
 use native.Mathlib.Omega.{arith}
-use mathlib.Core.Path.{_≡_, refl, sym, ap, subst, _∙_}
+use mathlib.Core.Path.{_≡_, refl, sym, ap, _∙_}
 use mathlib.Core.Bool.{Bool, true, false, not, _&&_, _||_, and-false, or-true, true≢false}
-use mathlib.Core.Logic.{_↔_, _⊎_, inl, inr, ⊎-elim}
-use mathlib.Core.List.{List, [], _∷_, _++_, List·Memᴰ, List·Memᴰ·head, List·Memᴰ·tail, List·Memᴰ·cases-cons, List·Memᴰ·not-nil}
+use mathlib.Core.Logic.{_↔_, _⊎_, inl, inr}
+use mathlib.Core.List.{List, [], _∷_, _++_}
 use lib.Dec.{T, eqb, leb, ltb, leb·zero}
 use lib.ListN.{length}
-use borrow.Author.Tests.{ltb-true, ltb-false, leb-true, leb-false, le-leb, lt-leb, ne-eqb, eqb-true, eqb-false}
+use borrow.Author.Tests.{ltb-true, ltb-false, leb-false, le-leb, lt-leb, ne-eqb, eqb-false}
 use Rattle.model.specs.declared.Interface.{Interface}
 use Rattle.model.specs.declared.Refusal.{Refusal}
 use Rattle.model.specs.declared.Refusal.the-variants.{NoBand}
@@ -32,7 +32,6 @@ use Rattle.model.specs.declared.Calibration.the-variants.{Off, On}
 use Rattle.model.specs.declared.Seen.{Seen}
 use Rattle.model.specs.declared.Seen.the-variants.{Tag, Timeout}
 use Rattle.model.specs.declared.Turn.{Turn}
-use Rattle.model.specs.declared.Turn.the-variants.{Goes, Names, Fails}
 use Rattle.model.specs.declared.Guard.{Guard}
 use Rattle.model.specs.declared.Guard.the-variants.{Band}
 use Rattle.model.specs.declared.State.{State}
@@ -45,44 +44,42 @@ use Rattle.model.specs.Contract.{Ran}
 use Rattle.model.specs.Refusals.{numberOf}
 use Rattle.model.specs.Frames.{Command, idn, protocolSelect, sendRecv, idle, echo, sourceAllowed, allowed, Transfer, send, bytes, permitted}
 use Rattle.model.specs.Replies.{leastRoom, firstOf as firstOf′, secondOf, wakes, with, fedClose, fedEvent, fedData, fedBySecond, fedCount, fedByFirst, fedPhase}
-use Rattle.model.specs.Calibration.{settingsAt, search, heard, tagged, timedOut, band}
-use Rattle.model.specs.Session.{made, outcome, refuse, busy, isOff, unready, barred, awaiting, sentBy, sending, testing, isDue, eventIn, seen, afterGood, ended, turned, good, takenBy, taken, Call, power-on, pulse, request, reset, poll, read, calibrate, next, feed, step}
-use Rattle.model.specs.Checks.{Number, none, number, numbered, firstOf, First, condition, order, isMild, lent, isMalformed, isError, isGood, sees, away, unselected, closed, selectsOne, outOfPlace, isReady}
+use Rattle.model.specs.Calibration.{settingsAt, heard, band}
+use Rattle.model.specs.Session.{made, refuse, busy, isOff, unready, barred, awaiting, sentBy, sending, isDue, eventIn, seen, afterGood, turned, takenBy, taken, Call, power-on, pulse, request, reset, poll, read, calibrate, next, feed, step}
+use Rattle.model.specs.Checks.{Check, _when_, selectsOne, outOfPlace, away, unselected, closed, isReady, answerChecks, replyChecks, checks, none, number, numbered, firstOf, Passes, First, isMild}
 use Rattle.model.specs.Claims.{Exactly, Untouched, BandRefused, Sends}
 use Rattle.model.proofs.Words.{ways, each}
 
--- ---- the first in an order, of any conditions
+-- ---- the first row that holds, of any rows
 
 no-number : (k : ℕ) → none ≡ number k → ⊥
 no-number k e = let z : _≡_ {A = ℕ} 0 1 = cc in omega arith
 
-first→ : (q : ℕ → Bool) (ks : List ℕ) (k : ℕ) → firstOf q ks ≡ number k → First k q ks
-first→ q [] k e = absurd (no-number k e)
-first→ q (j ∷ ks) k e = go (q j) refl (first→ q ks k)
+first→ : (rows : List Check) (k : ℕ) → firstOf rows ≡ number k → First k rows
+first→ [] k e = absurd (no-number k e)
+first→ (r ∷ rows) k e = go (r .number) (r .holds) (first→ rows k) e
   where
-    go : (b : Bool) → q j ≡ b → (firstOf q ks ≡ number k → First k q ks) → First k q (j ∷ ks)
-    go true p rest =
-        let same : j ≡ k = cc (simp p at e) in
-        ([], ks, ap (λ (x : ℕ). x ∷ ks) same, subst (λ (x : ℕ). q x ≡ true) same p, λ i m. absurd (List·Memᴰ·not-nil m))
-    go false p rest =
-        let (bs, cs, split, holds, fail) = rest (simp p at e) in
-        (j ∷ bs, cs, ap (λ (x : List ℕ). j ∷ x) split, holds, λ i m. ⊎-elim (λ same. ap q same ∙ p) (λ m′. fail i m′) (List·Memᴰ·cases-cons m))
+    go : (j : ℕ) (b : Bool) → (firstOf rows ≡ number k → First k rows) → firstOf (j when b ∷ rows) ≡ number k → First k (j when b ∷ rows)
+    go j true rest e = let same : j ≡ k = cc in ([], rows, ap (λ (x : ℕ). x when true ∷ rows) same, tt)
+    go j false rest e =
+        let (before, after, split, fail) = rest e in
+        (j when false ∷ before, after, ap (λ (x : List Check). j when false ∷ x) split, (refl, fail))
 
-first← : (q : ℕ → Bool) (bs cs : List ℕ) (k : ℕ) → q k ≡ true → ((j : ℕ) → List·Memᴰ j bs → q j ≡ false) → firstOf q (bs ++ k ∷ cs) ≡ number k
-first← q [] cs k h n = simp h
-first← q (b ∷ bs) cs k h n = simp (n b (List·Memᴰ·head refl)) (first← q bs cs k h (λ j m. n j (List·Memᴰ·tail m)))
+first← : (before after : List Check) (k : ℕ) → Passes before → firstOf (before ++ k when true ∷ after) ≡ number k
+first← [] after k fail = refl
+first← (r ∷ before) after k (fails, fail) = simp fails (first← before after k fail)
 
-first-is : (q : ℕ → Bool) (ks : List ℕ) (k : ℕ) → (firstOf q ks ≡ number k) ↔ First k q ks
-first-is q ks k = (first→ q ks k, λ (bs, cs, split, holds, fail). ap (firstOf q) split ∙ first← q bs cs k holds fail)
+first-is : (rows : List Check) (k : ℕ) → (firstOf rows ≡ number k) ↔ First k rows
+first-is rows k = (first→ rows k, λ (before, after, split, fail). ap firstOf split ∙ first← before after k fail)
 
--- ---- the model's answer has the first number of its call's order
+-- ---- the model's answer has the first number of its call's checks
 
 decide : {P : Type 0} (b : Bool) → (b ≡ true → P) → (b ≡ false → P) → P
 decide true p q = p refl
 decide false p q = q refl
 
 abbrev Agree : Session → Call → Type 0
-Agree s c = numbered (step s c .answer .answer) ≡ firstOf (λ (k : ℕ). condition k s c) (order c)
+Agree s c = numbered (step s c .answer .answer) ≡ firstOf (checks s c)
 
 -- bytes that are sent: 2, 1
 agree-sent : (s : Session) (t : Transfer) (out : List ℕ) (after : Session)
@@ -165,9 +162,7 @@ agree-next i state (On plan found) out =
 -- where an answer leads, by its number
 agree-heard : (found : Search) (x : Seen) (plan : Plan) (i : Interface) (state : State) (k : ℕ) (place : Place)
     → numbered (turned (heard found x) plan i state k place .answer)
-    ≡ pick (sees Timeout x && ltb (found .commands) 2) (number 8)
-    (pick (sees Tag x && eqb (found .commands) 2) (number 9)
-    (pick (sees Timeout x && (leb 8 (found .commands) && ltb (found .level) 4)) (number 10) none))
+    ≡ firstOf (answerChecks (On plan found) x)
 agree-heard found Tag plan i state k place =
     decide (ltb (found .commands) 2) (λ e. let h = ltb-true (found .commands) 2 e in simp (e, ne-eqb (found .commands) 2 (omega arith)))
     (λ e. decide (eqb (found .commands) 2) (λ e′. simp (e, e′)) (λ e′. decide (ltb (found .commands) 8) (λ e″. simp (e, e′, e″)) (λ e″. simp (e, e′, e″))))
@@ -181,17 +176,6 @@ agree-heard found Timeout plan i state k place =
     let m : leb 8 n ≡ true = le-leb 8 n h in
     decide (ltb (found .level) 4) (λ e″. simp (e, e′, e″, j, m)) (λ e″. simp (e, e′, e″, j, m))))
 
--- the numbers that a piece can bring, by its verdict
-abbrev Brought : Verdict → Fed → Calibration → List ℕ → Number
-Brought v r Off piece = pick (isMalformed v r) (number 5) (pick (isError v r) (number 7) none)
-Brought v r (On plan found) piece =
-    let x : Seen = seen (eventIn piece (r .place)) in
-    pick (isMalformed v r) (number 5)
-    (pick (isError v r) (number 12)
-    (pick (isGood v r && sees Timeout x && ltb (found .commands) 2) (number 8)
-    (pick (isGood v r && sees Tag x && eqb (found .commands) 2) (number 9)
-    (pick (isGood v r && sees Timeout x && (leb 8 (found .commands) && ltb (found .level) 4)) (number 10) none))))
-
 -- a piece that is read, in a room that is long enough
 abbrev Roomy : Verdict → Type 0
 Roomy More = Unit {0}
@@ -201,7 +185,7 @@ Roomy Malformed = Unit {0}
 Roomy NoRoom = ⊥
 
 agree-brought : (v : Verdict) (r : Fed) (i : Interface) (state : State) (c : Calibration) (a : Awaited) (selected : ℕ) (piece : List ℕ)
-    → Roomy v → numbered (takenBy v r (made i state c) a selected piece .answer) ≡ Brought v r c piece
+    → Roomy v → numbered (takenBy v r (made i state c) a selected piece .answer) ≡ firstOf (replyChecks v c (seen (eventIn piece (r .place))))
 agree-brought More r i state Off a selected piece ok = refl
 agree-brought More r i state (On plan found) a selected piece ok = refl
 agree-brought Good r i state Off a selected piece ok = refl
@@ -281,7 +265,7 @@ agree s (feed piece room) = agree-feed (s .interface) (s .state) (s .calibration
 
 pub exactly : Exactly
 exactly s c k =
-    let f = first-is (λ (j : ℕ). condition j s c) (order c) k in
+    let f = first-is (checks s c) k in
     (λ e. f .0 (sym (agree s c) ∙ e), λ w. agree s c ∙ f .1 w)
 
 -- ---- the mild refusals
@@ -385,7 +369,7 @@ neither true b e = absurd (true≢false e)
 neither false b e = (refl, e)
 
 pub sends : Sends
-sends s c out b u r l =
+sends s c out (b, (u, (r, (l, _)))) =
     let (fits, fields) = neither (outOfPlace c (s .state)) (not (allowed c)) r in
     decide (allowed c) (λ a. simp (b, unready-is c (s .state) ∙ u, barred-is c (s .state) ∙ fits, a, l)) (λ a. absurd (true≢false (sym (ap not a) ∙ fields)))
 

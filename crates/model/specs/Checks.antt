@@ -1,13 +1,11 @@
--- Document 01, "Refusals by number", as a table: a condition for each number, and the order of checks for each call.
+-- Document 01, "Refusals by number", as a table: for each call its checks in order, each a refusal's number with its condition.
 -- Assumes nothing.
 use Prim.Native.Nat.{ℕ}
 use mathlib.Core.Path.{_≡_}
 use mathlib.Core.Bool.{Bool, true, false, not, _&&_, _||_}
-use mathlib.Core.List.{List, [], _∷_, _++_, List·Memᴰ}
+use mathlib.Core.List.{List, [], _∷_, _++_}
 use lib.Dec.{ltb, leb, eqb}
 use lib.ListN.{length}
-use Rattle.model.specs.declared.Refusal.{Refusal}
-use Rattle.model.specs.declared.Progress.{Progress}
 use Rattle.model.specs.declared.Verdict.{Verdict}
 use Rattle.model.specs.declared.Verdict.the-variants.{More, Good, Error, Malformed, NoRoom}
 use Rattle.model.specs.declared.Fed.{Fed}
@@ -27,27 +25,24 @@ use Rattle.model.specs.Replies.{leastRoom}
 use Rattle.model.specs.Calibration.{settingsAt}
 use Rattle.model.specs.Session.{isWaiting, isRunning, eventIn, seen, Call, power-on, pulse, request, reset, poll, read, calibrate, next, feed}
 
+-- a row: the refusal's number, and whether its condition holds
+pub record Check : Type 0 where
+  pub number : ℕ
+  pub holds : Bool
+
+infix 68 _when_
+abbrev pub _when_ : ℕ → Bool → Check
+k when b = record { number = k; holds = b }
+
 -- ---- 1
 
--- the command that is due, or that would be
-abbrev pub dueOf : Calibration → Command
-dueOf Off = idn
-dueOf (On plan found) = idle (settingsAt plan (found .level))
-
+-- the bytes to send, any SPI byte included, are more than the output holds
 abbrev pub tooLong : Session → Transfer → List ℕ → Bool
 tooLong s t out = ltb (length out) (length (bytes (s .interface) t))
 
--- the bytes to send, any SPI byte included, are more than the output holds, or the reply room is under 255
-abbrev pub short : Session → Call → Bool
-short s (power-on i) = false
-short s pulse = false
-short s (request c out) = tooLong s (send c) out
-short s (reset out) = tooLong s Transfer.reset out
-short s (poll out) = tooLong s Transfer.poll out
-short s (read n out) = tooLong s (Transfer.read n) out
-short s (calibrate plan out) = tooLong s (send (idle (settingsAt plan 0x00))) out
-short s (next out) = tooLong s (send (dueOf (s .calibration))) out
-short s (feed piece room) = ltb (length room) leastRoom
+-- the reply room is under 255
+abbrev pub tooShort : List ℕ → Bool
+tooShort room = ltb (length room) leastRoom
 
 -- ---- 2
 
@@ -68,17 +63,13 @@ outOfPlace (sendRecv (x ∷ xs)) state = false
 outOfPlace (idle s) state = false
 outOfPlace echo state = false
 
--- a field rule is broken, a prescaler is above 3, a read is not of 1 to 257 bytes, or reset, poll or read on UART
-abbrev pub invalid : Session → Call → Bool
-invalid s (power-on i) = false
-invalid s pulse = false
-invalid s (request c out) = outOfPlace c (s .state) || not (allowed c)
-invalid s (reset out) = not (permitted (s .interface) Transfer.reset)
-invalid s (poll out) = not (permitted (s .interface) Transfer.poll)
-invalid s (read n out) = not (permitted (s .interface) (Transfer.read n))
-invalid s (calibrate plan out) = ltb 3 (plan .prescaler)
-invalid s (next out) = false
-invalid s (feed piece room) = false
+-- a field rule is broken
+abbrev pub invalid : Command → State → Bool
+invalid c state = outOfPlace c state || not (allowed c)
+
+-- a read is not of 1 to 257 bytes, or reset, poll or read on UART
+abbrev pub unfit : Session → Transfer → Bool
+unfit s t = not (permitted (s .interface) t)
 
 -- ---- 3
 
@@ -98,7 +89,7 @@ unselected (Selected protocol) = false
 unselected (Waiting progress selected) = true
 unselected Lost = true
 
--- SendRecv is taken in Selected, every other request in Ready too
+-- the state is Power-up or Lost, or SendRecv outside Selected
 abbrev pub closed : Command → State → Bool
 closed idn state = away state
 closed (protocolSelect protocol parameters) state = away state
@@ -106,19 +97,11 @@ closed (sendRecv payload) state = unselected state
 closed (idle s) state = away state
 closed echo state = away state
 
--- the state is Power-up or Lost, or SendRecv outside Selected
-abbrev pub off : Session → Call → Bool
-off s (power-on i) = false
-off s pulse = false
-off s (request c out) = closed c (s .state)
-off s (reset out) = false
-off s (poll out) = false
-off s (read n out) = false
-off s (calibrate plan out) = away (s .state)
-off s (next out) = false
-off s (feed piece room) = false
-
 -- ---- 4
+
+-- a reply is awaited or a calibration runs
+abbrev pub occupied : Session → Bool
+occupied s = isWaiting (s .state) || isRunning (s .calibration)
 
 abbrev pub isReady : State → Bool
 isReady PowerUp = false
@@ -127,139 +110,57 @@ isReady (Selected protocol) = false
 isReady (Waiting progress selected) = false
 isReady Lost = false
 
--- the answer to the command before is in, which leaves Ready, and eight were not given out
-abbrev pub nextDue : Calibration → State → Bool
-nextDue Off state = false
-nextDue (On plan found) state = isReady state && ltb (found .commands) 8
+-- no next command is due: the answer to the one before, which leaves Ready, is not in, or eight were given out
+abbrev pub notDue : State → Search → Bool
+notDue state found = not (isReady state && ltb (found .commands) 8)
 
--- a reply is awaited or a calibration runs
-abbrev pub occupied : Session → Bool
-occupied s = isWaiting (s .state) || isRunning (s .calibration)
+-- ---- the next calibration command: 4, 1
 
--- a request or a start of calibration comes while a reply is awaited or a calibration runs, or its next command is asked for when none is due
-abbrev pub engaged : Session → Call → Bool
-engaged s (power-on i) = false
-engaged s pulse = false
-engaged s (request c out) = occupied s
-engaged s (reset out) = false
-engaged s (poll out) = false
-engaged s (read n out) = false
-engaged s (calibrate plan out) = occupied s
-engaged s (next out) = not (nextDue (s .calibration) (s .state))
-engaged s (feed piece room) = false
+-- outside a calibration none is due
+abbrev pub nextChecks : Calibration → Session → List ℕ → List Check
+nextChecks Off s out = 4 when true ∷ []
+nextChecks (On plan found) s out = 4 when notDue (s .state) found ∷ 1 when tooLong s (send (idle (settingsAt plan (found .level)))) out ∷ []
 
--- ---- 6
+-- ---- a piece: 6, 1, then its bytes
 
--- a piece that is not empty arrives and nothing is awaited
-abbrev pub unasked : Session → Call → Bool
-unasked s (power-on i) = false
-unasked s pulse = false
-unasked s (request c out) = false
-unasked s (reset out) = false
-unasked s (poll out) = false
-unasked s (read n out) = false
-unasked s (calibrate plan out) = false
-unasked s (next out) = false
-unasked s (feed piece room) = not (isWaiting (s .state))
+-- calibration: the first command got timeout (8); level FC, the second's, answered tag (9); the eighth tested level 00 and got timeout (10)
+abbrev pub answerChecks : Calibration → Seen → List Check
+answerChecks Off x = []
+answerChecks (On plan found) Tag = 9 when eqb (found .commands) 2 ∷ []
+answerChecks (On plan found) Timeout = 8 when ltb (found .commands) 2 ∷ 10 when (leb 8 (found .commands) && ltb (found .level) 4) ∷ []
 
--- ---- 5, 7, 12: what a piece brings to a state
+-- a reply is malformed (5); the chip answered with an error code outside calibration (7) and in it (12); a room too short is told before
+abbrev pub replyChecks : Verdict → Calibration → Seen → List Check
+replyChecks More c x = []
+replyChecks Good c x = answerChecks c x
+replyChecks (Error code) c x = 7 when not (isRunning c) ∷ 12 when isRunning c ∷ []
+replyChecks Malformed c x = 5 when true ∷ []
+replyChecks NoRoom c x = []
 
-abbrev pub brings : (Verdict → Fed → Bool) → State → Call → Bool
-brings q PowerUp c = false
-brings q Ready c = false
-brings q (Selected protocol) c = false
-brings q Lost c = false
-brings q (Waiting progress selected) (power-on i) = false
-brings q (Waiting progress selected) pulse = false
-brings q (Waiting progress selected) (request c out) = false
-brings q (Waiting progress selected) (reset out) = false
-brings q (Waiting progress selected) (poll out) = false
-brings q (Waiting progress selected) (read n out) = false
-brings q (Waiting progress selected) (calibrate plan out) = false
-brings q (Waiting progress selected) (next out) = false
-brings q (Waiting progress selected) (feed piece room) =
-    q (Rattle.model.specs.Replies.feed progress piece room .answer .verdict) (Rattle.model.specs.Replies.feed progress piece room .answer)
-
-abbrev pub isMalformed : Verdict → Fed → Bool
-isMalformed More r = false
-isMalformed Good r = false
-isMalformed (Error code) r = false
-isMalformed Malformed r = true
-isMalformed NoRoom r = false
-
-abbrev pub isError : Verdict → Fed → Bool
-isError More r = false
-isError Good r = false
-isError (Error code) r = true
-isError Malformed r = false
-isError NoRoom r = false
-
-abbrev pub isGood : Verdict → Fed → Bool
-isGood More r = false
-isGood Good r = true
-isGood (Error code) r = false
-isGood Malformed r = false
-isGood NoRoom r = false
-
--- ---- 8, 9, 10: what a calibration hears
-
-abbrev pub sees : Seen → Seen → Bool
-sees Tag Tag = true
-sees Tag Timeout = false
-sees Timeout Tag = false
-sees Timeout Timeout = true
-
--- the piece of a call
-abbrev pub pieceOf : Call → List ℕ
-pieceOf (power-on i) = []
-pieceOf pulse = []
-pieceOf (request c out) = []
-pieceOf (reset out) = []
-pieceOf (poll out) = []
-pieceOf (read n out) = []
-pieceOf (calibrate plan out) = []
-pieceOf (next out) = []
-pieceOf (feed piece room) = piece
-
--- a good answer of a calibration that has come so far
-abbrev pub hears : Seen → (Search → Bool) → Calibration → Session → Call → Bool
-hears x q Off s c = false
-hears x q (On plan found) s c = brings (λ v r. isGood v r && sees x (seen (eventIn (pieceOf c) (r .place))) && q found) (s .state) c
+-- a piece that is not empty arrives and nothing is awaited (6)
+abbrev pub pieceChecks : State → Calibration → List ℕ → List ℕ → List Check
+pieceChecks PowerUp c piece room = 6 when true ∷ []
+pieceChecks Ready c piece room = 6 when true ∷ []
+pieceChecks (Selected protocol) c piece room = 6 when true ∷ []
+pieceChecks (Waiting progress selected) c piece room =
+    let r : Fed = Rattle.model.specs.Replies.feed progress piece room .answer in
+    1 when tooShort room ∷ replyChecks (r .verdict) c (seen (eventIn piece (r .place)))
+pieceChecks Lost c piece room = 6 when true ∷ []
 
 -- ---- the table
 
-abbrev pub condition : ℕ → Session → Call → Bool
-condition k s c =
-    pick (eqb k 1) (short s c)
-    (pick (eqb k 2) (invalid s c)
-    (pick (eqb k 3) (off s c)
-    (pick (eqb k 4) (engaged s c)
-    -- a reply is malformed
-    (pick (eqb k 5) (brings isMalformed (s .state) c)
-    (pick (eqb k 6) (unasked s c)
-    -- outside calibration, the chip answered with an error code
-    (pick (eqb k 7) (not (isRunning (s .calibration)) && brings isError (s .state) c)
-    -- calibration: the first command got timeout
-    (pick (eqb k 8) (hears Timeout (λ found. ltb (found .commands) 2) (s .calibration) s c)
-    -- calibration: level FC, the second command's, answered tag
-    (pick (eqb k 9) (hears Tag (λ found. eqb (found .commands) 2) (s .calibration) s c)
-    -- calibration: the eighth command tested level 00 and got timeout
-    (pick (eqb k 10) (hears Timeout (λ found. leb 8 (found .commands) && ltb (found .level) 4) (s .calibration) s c)
-    -- calibration: the chip answered with an error code
-    (pick (eqb k 12) (isRunning (s .calibration) && brings isError (s .state) c) false))))))))))
-
--- the order of checks
-abbrev pub order : Call → List ℕ
-order (power-on i) = []
-order pulse = []
-order (request c out) = 4 ∷ 3 ∷ 2 ∷ 1 ∷ []
-order (reset out) = 2 ∷ 1 ∷ []
-order (poll out) = 2 ∷ 1 ∷ []
-order (read n out) = 2 ∷ 1 ∷ []
-order (calibrate plan out) = 4 ∷ 3 ∷ 2 ∷ 1 ∷ []
-order (next out) = 4 ∷ 1 ∷ []
-order (feed [] room) = []
-order (feed (x ∷ xs) room) = 6 ∷ 1 ∷ 5 ∷ 7 ∷ 12 ∷ 8 ∷ 9 ∷ 10 ∷ []
+abbrev pub checks : Session → Call → List Check
+checks s (power-on i) = []
+checks s pulse = []
+checks s (request c out) = 4 when occupied s ∷ 3 when closed c (s .state) ∷ 2 when invalid c (s .state) ∷ 1 when tooLong s (send c) out ∷ []
+checks s (reset out) = 2 when unfit s Transfer.reset ∷ 1 when tooLong s Transfer.reset out ∷ []
+checks s (poll out) = 2 when unfit s Transfer.poll ∷ 1 when tooLong s Transfer.poll out ∷ []
+checks s (read n out) = 2 when unfit s (Transfer.read n) ∷ 1 when tooLong s (Transfer.read n) out ∷ []
+checks s (calibrate plan out) =
+    4 when occupied s ∷ 3 when away (s .state) ∷ 2 when ltb 3 (plan .prescaler) ∷ 1 when tooLong s (send (idle (settingsAt plan 0x00))) out ∷ []
+checks s (next out) = nextChecks (s .calibration) s out
+checks s (feed [] room) = []
+checks s (feed (x ∷ xs) room) = pieceChecks (s .state) (s .calibration) (x ∷ xs) room
 
 -- ---- the first that holds
 
@@ -277,15 +178,19 @@ numbered Answer.Good = none
 numbered (Answer.Reference reference commands) = none
 numbered (Answer.Refused k) = number (numberOf k)
 
--- the first number in an order whose condition holds
-abbrev pub firstOf : (ℕ → Bool) → List ℕ → Number
-firstOf holds [] = none
-firstOf holds (k ∷ ks) = pick (holds k) (number k) (firstOf holds ks)
+-- the number of the first row whose condition holds
+abbrev pub firstOf : List Check → Number
+firstOf [] = none
+firstOf (r ∷ rows) = pick (r .holds) (number (r .number)) (firstOf rows)
 
--- k stands in the order, its condition holds, and that of none before it does
-abbrev pub First : ℕ → (ℕ → Bool) → List ℕ → Type 0
-First k holds ks =
-    (before : List ℕ) × (after : List ℕ) × (ks ≡ before ++ k ∷ after) × (holds k ≡ true) × ((j : ℕ) → List·Memᴰ j before → holds j ≡ false)
+-- the condition of no row holds
+abbrev pub Passes : List Check → Type 0
+Passes [] = Unit {0}
+Passes (r ∷ rows) = (r .holds ≡ false) × Passes rows
+
+-- k is the number of a row whose condition holds, and that of none before it does
+abbrev pub First : ℕ → List Check → Type 0
+First k rows = (before : List Check) × (after : List Check) × (rows ≡ before ++ k when true ∷ after) × Passes before
 
 -- ---- the buffer that a call is lent
 

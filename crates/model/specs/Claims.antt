@@ -2,7 +2,7 @@
 -- Assumes nothing.
 use Prim.Native.Nat.{ℕ, suc, _+_, _%_, _≤_, _<_}
 use mathlib.Core.Path.{_≡_}
-use mathlib.Core.Bool.{Bool, true, false}
+use mathlib.Core.Bool.{true}
 use mathlib.Core.Logic.{_↔_, _⊎_}
 use mathlib.Core.List.{List, [], _∷_, _++_}
 use lib.ListN.{length, drop}
@@ -33,16 +33,14 @@ use Rattle.model.specs.Replies.{leastRoom, Reply, Meaning, meaning, repl
 use Rattle.model.specs.Refusals.{numberOf}
 use Rattle.model.specs.Calibration.{band, Sets, Hears, Guards}
 use Rattle.model.specs.Session.{Call, request, awaiting, outcome, refuse, step, Meets, Unpowered}
-use Rattle.model.specs.Checks.{short, invalid, off, engaged, condition, order, Number, number, numbered, First, lent, isMild}
+use Rattle.model.specs.Checks.{checks, number, numbered, Passes, First, lent, isMild}
 use Rattle.model.specs.Times.{ticks, times, tTO, exactly, Timed, Waits}
 
 -- ---- demand 1: refusals
 
--- refusal k is given if and only if its condition holds and none before it in the order does, for every call and every session
+-- refusal k is given if and only if its condition holds and none before it in the order of checks does, for every call and every session
 abbrev pub Exactly : Type 0
-Exactly =
-    (s : Session) (c : Call) (k : ℕ) →
-    (numbered (step s c .answer .answer) ≡ number k) ↔ First k (λ (j : ℕ). condition j s c) (order c)
+Exactly = (s : Session) (c : Call) (k : ℕ) → (numbered (step s c .answer .answer) ≡ number k) ↔ First k (checks s c)
 
 -- refusals 1, 2, 3, 4, 6 and 11 change nothing, write nothing and consume nothing
 abbrev pub Untouched : Type 0
@@ -54,12 +52,12 @@ Untouched =
 abbrev pub BandRefused : Type 0
 BandRefused = (r : ℕ) → (band r ≡ Guard.Refused NoBand) ↔ ((r < 0x08) ⊎ ((0xF4 < r) ⊎ (r % 4 ≡ 0 → ⊥)))
 
--- a request with valid fields and room enough, where nothing is awaited and no calibration runs, in Ready or Selected (SendRecv in Selected,
--- with n = 0 only for protocol 1), sends the frame of its command and waits for its reply
+-- a request of which no check holds (valid fields and room enough, nothing awaited and no calibration running, in Ready or Selected, SendRecv
+-- in Selected and with n = 0 only for protocol 1) sends the frame of its command and waits for its reply
 abbrev pub Sends : Type 0
 Sends =
     (s : Session) (c : Command) (out : List ℕ) →
-    engaged s (request c out) ≡ false → off s (request c out) ≡ false → invalid s (request c out) ≡ false → short s (request c out) ≡ false →
+    Passes (checks s (request c out)) →
     step s (request c out) ≡
     record {
       answer = outcome (awaiting s c (s .calibration)) (Answer.Sent (length (wrapped (s .interface) (frame c))));
