@@ -6,7 +6,7 @@ use Rattle.model.specs.Times.{tL, tREF, tINACTIVE, tTO, tOSC, tDAC, millisecond
 use Rattle.cases.specs.Starred.{Starred}
 use Rattle.cases.specs.Replies.{Codes, Good-replies, Bad-replies, Pieces, Places}
 use Rattle.cases.specs.Sessions.{Changes, Requests, Feeds, Calibrations}
-use Rattle.cases.specs.Published.{Frames, Read, Refused, Transfers, Outputs, Received, Waits, Numbers, Values}
+use Rattle.cases.specs.Published.{Frames, Read, Refused, Transfers, Outputs, Received, Waits, Numbers, Values, Mild}
 
 pub starred : Starred
 unfolding tL tREF tINACTIVE tTO tOSC tDAC milliseconds round ofInt
@@ -68,6 +68,9 @@ numbers = refl
 
 pub values : Values
 values = refl
+
+pub mild : Mild
+mild = refl
 
 pub codes : Codes
 codes = refl

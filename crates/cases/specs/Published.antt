@@ -20,8 +20,10 @@ use Rattle.model.specs.declared.Timing.{Timing}
 use Rattle.model.specs.Contract.{Ran}
 use Rattle.model.specs.Refusals.{numberOf, valuesOf}
 use Rattle.model.specs.Frames.{Command, idn, protocolSelect, sendRecv, idle, echo, frame, Transfer, send, reset, poll, read, bytes, write, received, readCommand, noFrame}
+use Rattle.model.specs.Checks.{isMild}
 use Rattle.model.specs.Times.{timesOf, waitOf}
 use Rattle.cases.specs.Starred.{calibrating, longest, ms}
+use Rattle.cases.specs.Replies.{those}
 
 -- ---- frames
 
@@ -157,3 +159,7 @@ Values =
     map valuesOf (
     Short ∷ Invalid ∷ Unready ∷ Busy ∷ Malformed ∷ Unawaited ∷ ChipError 0x87 ∷ LowestTimeout 1 ∷ HighestTag 2 ∷ NoLevel 8 ∷ NoBand ∷ CalibrationError 0x82 3 ∷ [])
     ≡ [] ∷ [] ∷ [] ∷ [] ∷ [] ∷ [] ∷ (0x87 ∷ []) ∷ (1 ∷ []) ∷ (2 ∷ []) ∷ (8 ∷ []) ∷ [] ∷ (0x82 ∷ 3 ∷ []) ∷ []
+
+-- those that change nothing, write nothing and consume nothing
+abbrev pub Mild : Type 0
+Mild = those isMild 13 [] ≡ 1 ∷ 2 ∷ 3 ∷ 4 ∷ 6 ∷ 11 ∷ []

@@ -46,7 +46,7 @@ use Rattle.model.specs.Frames.{Command, idn, protocolSelect, sendRecv, i
 use Rattle.model.specs.Replies.{leastRoom, firstOf as firstOf′, secondOf, wakes, with, fedClose, fedEvent, fedData, fedBySecond, fedCount, fedByFirst, fedPhase}
 use Rattle.model.specs.Calibration.{settingsAt, heard, band}
 use Rattle.model.specs.Session.{made, refuse, busy, isOff, unready, barred, awaiting, sentBy, sending, isDue, eventIn, seen, afterGood, turned, takenBy, taken, Call, power-on, pulse, request, reset, poll, read, calibrate, next, feed, step}
-use Rattle.model.specs.Checks.{Check, _when_, selectsOne, outOfPlace, away, unselected, closed, isReady, answerChecks, replyChecks, checks, none, number, numbered, firstOf, Passes, First, isMild}
+use Rattle.model.specs.Checks.{Check, _when_, tooLong, tooShort, selectsOne, outOfPlace, unfit, away, unselected, closed, isReady, answerChecks, replyChecks, checks, none, number, numbered, firstOf, Passes, First, isMild}
 use Rattle.model.specs.Claims.{Exactly, Untouched, BandRefused, Sends}
 use Rattle.model.proofs.Words.{ways, each}
 
@@ -83,11 +83,9 @@ Agree s c = numbered (step s c .answer .answer) ≡ firstOf (checks s c)
 
 -- bytes that are sent: 2, 1
 agree-sent : (s : Session) (t : Transfer) (out : List ℕ) (after : Session)
-    → numbered (sending s t out after .answer .answer)
-    ≡ pick (not (permitted (s .interface) t)) (number 2) (pick (ltb (length out) (length (bytes (s .interface) t))) (number 1) none)
+    → numbered (sending s t out after .answer .answer) ≡ firstOf (2 when unfit s t ∷ 1 when tooLong s t out ∷ [])
 agree-sent s t out after =
-    decide (permitted (s .interface) t)
-    (λ p. decide (ltb (length out) (length (bytes (s .interface) t))) (λ l. simp (p, l)) (λ l. simp (p, l)))
+    decide (permitted (s .interface) t) (λ p. decide (tooLong s t out) (λ l. simp (p, l)) (λ l. simp (p, l)))
     (λ p. simp p)
 
 -- two tests agree if they do in every state
@@ -138,10 +136,10 @@ allowed-at plan level =
 
 agree-tested : (s : Session) (plan : Plan) (level : ℕ) (out : List ℕ) (after : Session)
     → numbered (sending s (send (idle (settingsAt plan level))) out after .answer .answer)
-    ≡ pick (ltb (length out) (length (bytes (s .interface) (send (idle (settingsAt plan level)))))) (number 1) none
+    ≡ firstOf (1 when tooLong s (send (idle (settingsAt plan level))) out ∷ [])
 agree-tested s plan level out after =
     agree-sent s (send (idle (settingsAt plan level))) out after
-    ∙ ap (λ (b : Bool). pick (not b) (number 2) (pick (ltb (length out) (length (bytes (s .interface) (send (idle (settingsAt plan level)))))) (number 1) none)) (allowed-at plan level)
+    ∙ ap (λ (b : Bool). firstOf (2 when not b ∷ 1 when tooLong s (send (idle (settingsAt plan level))) out ∷ [])) (allowed-at plan level)
 
 agree-calibrate : (s : Session) (plan : Plan) (out : List ℕ) → Agree s (calibrate plan out)
 agree-calibrate s plan out =
@@ -161,8 +159,7 @@ agree-next i state (On plan found) out =
 
 -- where an answer leads, by its number
 agree-heard : (found : Search) (x : Seen) (plan : Plan) (i : Interface) (state : State) (k : ℕ) (place : Place)
-    → numbered (turned (heard found x) plan i state k place .answer)
-    ≡ firstOf (answerChecks (On plan found) x)
+    → numbered (turned (heard found x) plan i state k place .answer) ≡ firstOf (answerChecks (On plan found) x)
 agree-heard found Tag plan i state k place =
     decide (ltb (found .commands) 2) (λ e. let h = ltb-true (found .commands) 2 e in simp (e, ne-eqb (found .commands) 2 (omega arith)))
     (λ e. decide (eqb (found .commands) 2) (λ e′. simp (e, e′)) (λ e′. decide (ltb (found .commands) 8) (λ e″. simp (e, e′, e″)) (λ e″. simp (e, e′, e″))))
@@ -186,14 +183,12 @@ Roomy NoRoom = ⊥
 
 agree-brought : (v : Verdict) (r : Fed) (i : Interface) (state : State) (c : Calibration) (a : Awaited) (selected : ℕ) (piece : List ℕ)
     → Roomy v → numbered (takenBy v r (made i state c) a selected piece .answer) ≡ firstOf (replyChecks v c (seen (eventIn piece (r .place))))
-agree-brought More r i state Off a selected piece ok = refl
-agree-brought More r i state (On plan found) a selected piece ok = refl
+agree-brought More r i state c a selected piece ok = refl
 agree-brought Good r i state Off a selected piece ok = refl
 agree-brought Good r i state (On plan found) a selected piece ok = agree-heard found (seen (eventIn piece (r .place))) plan i (afterGood a selected) (r .used) (r .place)
 agree-brought (Error code) r i state Off a selected piece ok = refl
 agree-brought (Error code) r i state (On plan found) a selected piece ok = refl
-agree-brought Malformed r i state Off a selected piece ok = refl
-agree-brought Malformed r i state (On plan found) a selected piece ok = refl
+agree-brought Malformed r i state c a selected piece ok = refl
 agree-brought NoRoom r i state c a selected piece ok = absurd ok
 
 abbrev RoomyRan : Ran Fed → Type 0
@@ -235,14 +230,10 @@ roomy (Data have count) a x xs room = ways RoomyRan (ltb have count) (λ _. room
 
 agree-piece : (i : Interface) (p : Progress) (selected : ℕ) (c : Calibration) (x : ℕ) (xs room : List ℕ)
     → Agree (made i (Waiting p selected) c) (feed (x ∷ xs) room)
-agree-piece i p selected Off x xs room =
+agree-piece i p selected c x xs room =
     let m = fedPhase (p .phase) (p .awaited) (x ∷ xs) room in
-    decide (ltb (length room) leastRoom) (λ l. simp l)
-    (λ l. simp l (agree-brought (m .answer .verdict) (m .answer) i (Waiting p selected) Off (p .awaited) selected (x ∷ xs) (roomy (p .phase) (p .awaited) x xs room)))
-agree-piece i p selected (On plan found) x xs room =
-    let m = fedPhase (p .phase) (p .awaited) (x ∷ xs) room in
-    decide (ltb (length room) leastRoom) (λ l. simp l)
-    (λ l. simp l (agree-brought (m .answer .verdict) (m .answer) i (Waiting p selected) (On plan found) (p .awaited) selected (x ∷ xs) (roomy (p .phase) (p .awaited) x xs room)))
+    decide (tooShort room) (λ l. simp l)
+    (λ l. simp l (agree-brought (m .answer .verdict) (m .answer) i (Waiting p selected) c (p .awaited) selected (x ∷ xs) (roomy (p .phase) (p .awaited) x xs room)))
 
 agree-feed : (i : Interface) (state : State) (c : Calibration) (piece room : List ℕ) → Agree (made i state c) (feed piece room)
 agree-feed i state c [] room = refl
