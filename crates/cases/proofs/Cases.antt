@@ -5,8 +5,8 @@ use lib.Ieee.{round, ofInt}
 use Rattle.model.specs.Times.{tL, tREF, tINACTIVE, tTO, tOSC, tDAC, milliseconds}
 use Rattle.cases.specs.Starred.{Starred}
 use Rattle.cases.specs.Replies.{Codes, Good-replies, Bad-replies, Pieces, Places}
-use Rattle.cases.specs.Sessions.{Changes, Requests, Feeds, Calibrations}
-use Rattle.cases.specs.Published.{Frames, Read, Refused, Transfers, Outputs, Received, Waits, Numbers, Values, Mild}
+use Rattle.cases.specs.Sessions.{Changes, Requests, Feeds, Calibrations, Given}
+use Rattle.cases.specs.Published.{Frames, Read, Refused, Transfers, Outputs, Received, Prescalers, Waits, Numbers, Values, Mild}
 
 pub starred : Starred
 unfolding tL tREF tINACTIVE tTO tOSC tDAC milliseconds round ofInt
@@ -48,6 +48,7 @@ outputs =
       rule-before-room = refl;
       nine-parameters = refl;
       too-much = refl;
+      one-to-read = refl;
       none-to-read = refl;
       too-much-to-read = refl;
       most-to-read = refl;
@@ -58,6 +59,9 @@ outputs =
 
 pub back : Received
 back = refl
+
+pub prescalers : Prescalers
+prescalers = refl
 
 pub waits : Waits
 unfolding tL tREF tINACTIVE tTO milliseconds round ofInt
@@ -113,3 +117,6 @@ fed = refl
 
 pub calibrations : Calibrations
 calibrations = refl
+
+pub given : Given
+given = refl

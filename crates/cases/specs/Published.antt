@@ -19,7 +19,7 @@ use Rattle.model.specs.declared.Waiting.{Waiting}
 use Rattle.model.specs.declared.Timing.{Timing}
 use Rattle.model.specs.Contract.{Ran}
 use Rattle.model.specs.Refusals.{numberOf, valuesOf}
-use Rattle.model.specs.Frames.{Command, idn, protocolSelect, sendRecv, idle, echo, frame, Transfer, send, reset, poll, read, bytes, write, received, readCommand, noFrame}
+use Rattle.model.specs.Frames.{Command, idn, protocolSelect, sendRecv, idle, echo, frame, prescaler, Transfer, send, reset, poll, read, bytes, write, received, readCommand, noFrame}
 use Rattle.model.specs.Checks.{isMild}
 use Rattle.model.specs.Times.{timesOf, waitOf}
 use Rattle.cases.specs.Starred.{calibrating, longest, ms}
@@ -127,6 +127,7 @@ pub record Outputs : Type 0 where
   pub rule-before-room : write Uart (send (protocolSelect 5 (0 ∷ []))) [] ≡ ran (Written.Refused Invalid) []
   pub nine-parameters : write Uart (send (protocolSelect 1 (replicate 9 0))) (9 ∷ []) ≡ ran (Written.Refused Invalid) (9 ∷ [])
   pub too-much : write Uart (send (sendRecv (replicate 256 0))) [] ≡ ran (Written.Refused Invalid) []
+  pub one-to-read : write Spi (read 1) (9 ∷ 9 ∷ 9 ∷ []) ≡ ran (Sent 2) (0x02 ∷ 0x00 ∷ 9 ∷ [])
   pub none-to-read : write Spi (read 0) [] ≡ ran (Written.Refused Invalid) []
   pub too-much-to-read : write Spi (read 258) [] ≡ ran (Written.Refused Invalid) []
   pub most-to-read : write Spi (read 257) [] ≡ ran (Written.Refused Short) []
@@ -138,6 +139,10 @@ abbrev pub Received : Type 0
 Received = map received ((0x00 ∷ 0x08 ∷ []) ∷ (0x00 ∷ []) ∷ [] ∷ []) ≡ (0x08 ∷ []) ∷ [] ∷ [] ∷ []
 
 -- ---- waiting
+
+-- bits 7:6, of a byte and of any number
+abbrev pub Prescalers : Type 0
+Prescalers = map prescaler (0x3F ∷ 0x40 ∷ 0x7F ∷ 0x80 ∷ 0xBF ∷ 0xC0 ∷ 0xFF ∷ 0x140 ∷ []) ≡ 0 ∷ 1 ∷ 1 ∷ 2 ∷ 2 ∷ 3 ∷ 3 ∷ 1 ∷ []
 
 pub record Waits : Type 0 where
   pub at-a-level : waitOf (calibrating 0xFC) ≡ Waiting.Known (After (ms 528))

@@ -100,7 +100,8 @@ pub record Pieces : Type 0 where
       feed (at Idn (Failed 0x83)) (0x00 ∷ []) room ≡ fed room (record { verdict = Error 0x83; used = 1; place = Nowhere; progress = begun Idn })
   -- records that no call made
   pub full : feed (at SendRecv (Data 3 3)) (0x00 ∷ []) room ≡ fed room (record { verdict = Malformed; used = 1; place = Nowhere; progress = begun SendRecv })
-  pub strange : feed (at Echo Waking) (0x01 ∷ []) room ≡ fed room (record { verdict = Malformed; used = 1; place = Nowhere; progress = begun Echo })
+  pub strange :
+      map (λ (a : Awaited). feed (at a Waking) (0x01 ∷ []) room .answer .verdict) (Idn ∷ ProtocolSelect 1 ∷ SendRecv ∷ Echo ∷ []) ≡ replicate 4 Malformed
 
 -- ---- places
 

@@ -2,6 +2,7 @@
 -- Assumes nothing.
 use Prim.Native.Nat.{ℕ}
 use mathlib.Core.Path.{_≡_}
+use mathlib.Core.Bool.{true, false}
 use mathlib.Core.List.{List, [], _∷_, _++_, map}
 use lib.ListN.{replicate}
 use Rattle.model.specs.declared.Interface.{Interface}
@@ -14,7 +15,7 @@ use Rattle.model.specs.declared.Answer.{Answer}
 use Rattle.model.specs.declared.Answer.the-variants.{Done, Sent, More, Good, Reference, Refused}
 use Rattle.model.specs.Frames.{idn, protocolSelect, sendRecv, idle, echo}
 use Rattle.model.specs.Session.{Call, pulse, request, reset, poll, read, calibrate, next, feed, unpowered}
-use Rattle.model.specs.History.{Event, Reached, run, on}
+use Rattle.model.specs.History.{Event, Reached, run, on, isSent}
 use Rattle.cases.specs.Starred.{plan, calibrating, room}
 
 -- the calls after a power-on
@@ -151,3 +152,9 @@ Calibrations =
     Refused Busy ∷ Sent 3 ∷
     Good ∷ Refused (LowestTimeout 1) ∷ Refused (HighestTag 2) ∷ Refused (CalibrationError 0x82 2) ∷ Refused Malformed ∷
     Reference 0x00 8 ∷ Refused (NoLevel 8) ∷ Refused (CalibrationError 0x82 8) ∷ []
+
+-- ---- histories
+
+-- the one answer that says that bytes were given out
+abbrev pub Given : Type 0
+Given = map isSent (Done ∷ Sent 2 ∷ More ∷ Good ∷ Reference 0x5C 8 ∷ Refused Busy ∷ []) ≡ false ∷ true ∷ false ∷ false ∷ false ∷ false ∷ []
