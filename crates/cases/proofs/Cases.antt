@@ -5,7 +5,7 @@ use lib.Ieee.{round, ofInt}
 use Rattle.model.specs.Times.{tL, tREF, tINACTIVE, tTO, tOSC, tDAC, milliseconds}
 use Rattle.cases.specs.Starred.{Starred}
 use Rattle.cases.specs.Replies.{Codes, Good-replies, Bad-replies, Pieces, Places}
-use Rattle.cases.specs.Sessions.{Changes, Requests, Feeds, Calibrations, Given}
+use Rattle.cases.specs.Sessions.{Changes, Requests, Feeds, Calibrations, Selecting, Given}
 use Rattle.cases.specs.Published.{Frames, Read, Refused, Transfers, Outputs, Received, Prescalers, Waits, Numbers, Values, Mild}
 
 pub starred : Starred
@@ -117,6 +117,9 @@ fed = refl
 
 pub calibrations : Calibrations
 calibrations = refl
+
+pub selecting : Selecting
+selecting = refl
 
 pub given : Given
 given = refl
