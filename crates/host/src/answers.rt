@@ -1,7 +1,6 @@
 // What a call answered, as text.
 ghost use mathlib.Core.Path.{_≡_};
 ghost use Rattle.model.specs.Refusals.{numberOf};
-use crate::text;
 use model::Answer;
 use model::Awaited;
 use model::Calibration;

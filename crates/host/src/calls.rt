@@ -1,7 +1,6 @@
 // The calls of a script: their names, what each takes, and a line read as one of them.
-use crate::text;
-use crate::text::Bytes;
-use crate::text::Number;
+use text::Bytes;
+use text::Number;
 
 // A call of the session that gives out bytes.
 pub enum Sender {

@@ -8,7 +8,6 @@ use crate::calls::Sender;
 use crate::faults;
 use crate::help;
 use crate::questions;
-use crate::text;
 use model::Interface;
 use model::Outcome;
 use model::Pair;

@@ -1,6 +1,5 @@
 // What is wrong with a line, and what was expected, as text. Columns are counted from 1.
 use crate::calls::Fault;
-use crate::text;
 
 fn put_column(text: &mut [u8], place: usize) -> usize {
     let n = text::put(text, 0, b"error: column");

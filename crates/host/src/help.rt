@@ -1,5 +1,4 @@
 // The calls, with an example each.
-use crate::text;
 
 pub fn put(text: &mut [u8]) -> usize {
     text::put(

@@ -5,7 +5,6 @@ mod desk;
 mod faults;
 mod help;
 mod questions;
-mod text;
 
 use crate::desk::Post;
 use libc::STDIN_FILENO;

@@ -2,7 +2,6 @@
 ghost use Prim.Native.Nat.{_≤_};
 use crate::answers;
 use crate::calls::Question;
-use crate::text;
 use model::Flags;
 use model::Frame;
 use model::Guard;

@@ -1,0 +1,47 @@
+-- Decimal numbers.
+-- Assumes nothing.
+use Prim.Native.Nat.{ℕ, zero, suc, _+_, _*_, _/_, _%_}
+use mathlib.Core.Bool.{Bool, true, false}
+use mathlib.Core.List.{List, [], _∷_, _++_}
+use lib.Dec.{ltb, leb}
+use lib.ListN.{length}
+use Rattle.model.specs.Words.{pick}
+use Rattle.text.specs.declared.Number.{Number}
+use Rattle.text.specs.declared.Number.the-variants.{Is, Wrong}
+use Rattle.text.specs.Lines.{skipped, wordEnd, between}
+use Rattle.text.specs.Hex.{inside, digit}
+
+-- the last k digits of a number at most, with no zero in front
+abbrev pub decimals : ℕ → ℕ → List ℕ
+decimals zero n = []
+decimals (suc k) n = pick (ltb n 10) ((48 + n) ∷ []) (decimals k (n / 10) ++ ((48 + n % 10) ∷ []))
+
+-- a number below 10 ^ 20 in decimal
+abbrev pub decimal : ℕ → List ℕ
+decimal n = decimals 20 n
+
+-- whether each byte is a decimal digit
+abbrev pub areDecimal : List ℕ → Bool
+areDecimal [] = true
+areDecimal (x ∷ xs) = pick (leb (digit x) 9) (areDecimal xs) false
+
+-- a value with more digits behind it
+abbrev pub valueOn : ℕ → List ℕ → ℕ
+valueOn value [] = value
+valueOn value (x ∷ xs) = valueOn (value * 10 + digit x) xs
+
+-- the value of digits
+abbrev pub valueOf : List ℕ → ℕ
+valueOf digits = valueOn 0 digits
+
+-- a word from one place to another as a number, if it is one to nine digits
+abbrev pub numberOf : List ℕ → ℕ → ℕ → Number
+numberOf word start next =
+    pick (inside 1 9 (length word)) (pick (areDecimal word) (Is (valueOf word) next) (Wrong start)) (Wrong start)
+
+-- the next word of a line as a number
+abbrev pub readNumber : List ℕ → ℕ → Number
+readNumber line from =
+    let start = skipped line from in
+    let next = wordEnd line start in
+    numberOf (between line start next) start next

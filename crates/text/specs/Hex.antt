@@ -1,0 +1,48 @@
+-- Hex digits, and bytes as pairs of them.
+-- Assumes nothing.
+use Prim.Native.Nat.{ℕ, _+_, _-_, _*_, _/_, _%_}
+use mathlib.Core.Bool.{Bool, false}
+use mathlib.Core.List.{List, [], _∷_}
+use lib.Dec.{ltb, leb}
+use lib.ListN.{length, set}
+use Rattle.model.specs.Words.{pick}
+use Rattle.model.specs.Contract.{Ran}
+use Rattle.text.specs.declared.Bytes.{Bytes}
+use Rattle.text.specs.declared.Bytes.the-variants.{Are, Wrong}
+use Rattle.text.specs.Lines.{rest, blank}
+
+-- the digit of a number below 16: 0 to 9, then A to F
+abbrev pub glyph : ℕ → ℕ
+glyph d = pick (ltb d 10) (48 + d) (55 + d)
+
+-- a byte as two digits, the higher first
+abbrev pub pair : ℕ → List ℕ
+pair byte = glyph (byte / 16) ∷ glyph (byte % 16) ∷ []
+
+-- from low to high
+abbrev pub inside : ℕ → ℕ → ℕ → Bool
+inside low high byte = pick (leb low byte) (leb byte high) false
+
+-- what a digit stands for, in either case, and 16 for what is none
+abbrev pub digit : ℕ → ℕ
+digit byte =
+    pick (inside 48 57 byte) (byte - 48) (pick (inside 65 70 byte) (byte - 55) (pick (inside 97 102 byte) (byte - 87) 16))
+
+-- the byte that two digits spell, and 256 where one of them is none
+abbrev pub byteOf : ℕ → ℕ → ℕ
+byteOf high low = pick (ltb (digit high) 16) (pick (ltb (digit low) 16) (digit high * 16 + digit low) 256) 256
+
+-- the bytes that a line's rest spells, which begins at a place, put into a buffer behind the n that are in: pairs of digits, with blanks between
+-- them or not; the answer is how many bytes are in at the line's end, or the place of what is no pair or finds no room
+abbrev pub readOn : List ℕ → ℕ → List ℕ → ℕ → Ran Bytes
+readOn [] place buffer n = record { answer = Are n; bytes = buffer }
+readOn (x ∷ []) place buffer n = record { answer = pick (blank x) (Are n) (Wrong place); bytes = buffer }
+readOn (x ∷ y ∷ xs) place buffer n =
+    pick (blank x) (readOn (y ∷ xs) (place + 1) buffer n)
+    (pick (leb (byteOf x y) 255)
+    (pick (ltb n (length buffer)) (readOn xs (place + 2) (set buffer n (byteOf x y)) (n + 1)) (record { answer = Wrong place; bytes = buffer }))
+    (record { answer = Wrong place; bytes = buffer }))
+
+-- the bytes of a line from a place on, put to the front of a buffer
+abbrev pub readBytes : List ℕ → ℕ → List ℕ → Ran Bytes
+readBytes line from buffer = readOn (rest line from) from buffer 0

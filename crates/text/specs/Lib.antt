@@ -1,0 +1,4 @@
+pub mod Lines
+pub mod Hex
+pub mod Decimal
+pub mod Writing
