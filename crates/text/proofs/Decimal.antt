@@ -74,7 +74,8 @@ module _ (word : List ℕ) (i : ℕ) where
   value-done h value = rw (drop-of-length-le word {i = i} h)
 
 -- the digit in front of digits
-front-digit : (x : ℕ) (xs : List ℕ) (b : Bool) → leb (digit x) 9 ≡ b → pick b (areDecimal xs) false ≡ true → (digit x ≤ 9) × (areDecimal xs ≡ true)
+pub front-digit : (x : ℕ) (xs : List ℕ) (b : Bool) → leb (digit x) 9 ≡ b → pick b (areDecimal xs) false ≡ true
+    → (digit x ≤ 9) × (areDecimal xs ≡ true)
 front-digit x xs true e h = (leb-true (digit x) 9 e, h)
 front-digit x xs false e h = absurd (let z : _≡_ {A = ℕ} 0 1 = cc in omega arith)
 
@@ -107,8 +108,8 @@ module _ (word : List ℕ) (start next : ℕ) where
     number-is e value v = simp (le-leb 1 (length word) l, le-leb (length word) 9 m, e) (ap (λ (x : ℕ). Is x next) v)
 
 -- the next word, found step by step
-pub number-at : (line : List ℕ) (from : ℕ) {start next : ℕ} {fronted part : List ℕ} {r : Number} → start ≡ skipped line from → next ≡ wordEnd line start
-    → fronted ≡ fore line next → part ≡ rest fronted start → r ≡ numberOf part start next → r ≡ readNumber line from
+pub number-at : (line : List ℕ) (from : ℕ) {start next : ℕ} {fronted part : List ℕ} {r : Number} → start ≡ skipped line from
+    → next ≡ wordEnd line start → fronted ≡ fore line next → part ≡ rest fronted start → r ≡ numberOf part start next → r ≡ readNumber line from
 number-at line from {start} {next} {fronted} {part} {r} s w f p n =
     let word : ℕ → ℕ → Number = λ (a b : ℕ). numberOf (between line a b) a b in
     n

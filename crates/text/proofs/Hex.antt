@@ -6,7 +6,7 @@ use native.Mathlib.Omega.{arith}
 use mathlib.Core.Path.{_≡_, refl, sym, ap, _∙_, subst⁻¹}
 use mathlib.Core.Bool.{Bool, true, false}
 use mathlib.Core.List.{List, [], _∷_}
-use lib.Dec.{ltb, leb}
+use lib.Dec.{ltb}
 use lib.ListN.{length, drop, getD, set, length-drop, drop-of-length-le}
 use lib.Seq.{drop-cons, drop-drop, getD-drop}
 use borrow.Author.Tests.{lt-ltb, le-ltb, le-leb, lt-leb}
@@ -47,7 +47,8 @@ past-one x place buffer n true e = simp e
 past-one x place buffer n false e = let same : place + 0 ≡ place = omega arith in rw same
 
 past-more : (x : ℕ) (xs : List ℕ) (k place : ℕ) (buffer : List ℕ) (n : ℕ) (b : Bool) → blank x ≡ b → (m : Ran Bytes)
-    → m ≡ readOn (drop k xs) (place + 1 + k) buffer n → pick b m (readOn (x ∷ xs) place buffer n) ≡ readOn (drop (pick b (1 + k) 0) (x ∷ xs)) (place + pick b (1 + k) 0) buffer n
+    → m ≡ readOn (drop k xs) (place + 1 + k) buffer n
+    → pick b m (readOn (x ∷ xs) place buffer n) ≡ readOn (drop (pick b (1 + k) 0) (x ∷ xs)) (place + pick b (1 + k) 0) buffer n
 past-more x xs k place buffer n true e m h =
     let more : place + 1 + k ≡ place + (1 + k) = omega arith in
     h ∙ rw (one-add k) (ap (λ (p : ℕ). readOn (drop k xs) p buffer n) (more ∙ ap (λ (j : ℕ). place + j) (one-add k)))

@@ -2,3 +2,5 @@ pub mod Lines
 pub mod Hex
 pub mod Decimal
 pub mod Writing
+pub mod BytesBack
+pub mod NumberBack

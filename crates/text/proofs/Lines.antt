@@ -1,16 +1,16 @@
 -- Blanks, words and comparisons, one byte further.
 -- Assumes nothing.
-use Prim.Native.Nat.{ℕ, suc, _+_, _≤_, _<_}
+use Prim.Native.Nat.{ℕ, _+_, _≤_, _<_}
 use native.Mathlib.Numerals.{add-one}
 use native.Mathlib.Omega.{arith}
-use mathlib.Core.Path.{_≡_, refl, sym, ap, _∙_}
+use mathlib.Core.Path.{_≡_, ap, _∙_}
 use mathlib.Core.Bool.{Bool, true, false}
-use mathlib.Core.List.{List, [], _∷_}
-use lib.Dec.{leb}
+use mathlib.Core.List.{List, []}
+use lib.Dec.{leb, eqb}
 use lib.ListN.{length, drop, getD, drop-of-length-le}
 use lib.Seq.{drop-cons}
 use borrow.Author.Tests.{leb-true, leb-false, eq-eqb, ne-eqb}
-use Rattle.text.specs.Lines.{blank, blanks, wordLength, skipped, wordEnd, same}
+use Rattle.text.specs.Lines.{fore, rest, blank, skipped, wordEnd, same, isWord}
 
 module _ (line : List ℕ) (i : ℕ) where
   pub blanks-on : i < length line → blank (getD line i 0) ≡ true → skipped line (i + 1) ≡ skipped line i
@@ -49,3 +49,13 @@ same-end ys i false e = rw (drop-cons ys i 0 (leb-false (length ys) i e))
 -- an element within a list, whatever stands for those past its end
 pub either-default : (xs : List ℕ) (i d e : ℕ) → i < length xs → getD xs i d ≡ getD xs i e
 either-default xs i d e h = cc (drop-cons xs i d h, drop-cons xs i e h)
+
+-- a byte that is no space
+pub no-space : (byte : ℕ) → (byte ≡ 32 → ⊥) → eqb byte 9 ≡ blank byte
+no-space byte h = simp (ne-eqb byte 32 h)
+
+-- the bytes from one place up to another, compared
+pub word-is : (line word : List ℕ) (from end : ℕ) (fronted part : List ℕ) (r : Bool) → fronted ≡ fore line end → part ≡ rest fronted from
+    → r ≡ same part word → r ≡ isWord line from end word
+word-is line word from end fronted part r f p e =
+    e ∙ ap (λ (l : List ℕ). same l word) (p ∙ ap (λ (l : List ℕ). rest l from) f)

@@ -1,4 +1,4 @@
--- Decimal numbers.
+-- Decimal numbers, written and read.
 -- Assumes nothing.
 use Prim.Native.Nat.{ℕ, zero, suc, _+_, _*_, _/_, _%_}
 use mathlib.Core.Bool.{Bool, true, false}
@@ -11,12 +11,12 @@ use Rattle.text.specs.declared.Number.the-variants.{Is, Wrong}
 use Rattle.text.specs.Lines.{skipped, wordEnd, between}
 use Rattle.text.specs.Hex.{inside, digit}
 
--- the last k digits of a number at most, with no zero in front
+-- a number of up to k digits
 abbrev pub decimals : ℕ → ℕ → List ℕ
 decimals zero n = []
 decimals (suc k) n = pick (ltb n 10) ((48 + n) ∷ []) (decimals k (n / 10) ++ ((48 + n % 10) ∷ []))
 
--- a number below 10 ^ 20 in decimal
+-- a number of up to twenty digits, as many as one of 64 bits can have
 abbrev pub decimal : ℕ → List ℕ
 decimal n = decimals 20 n
 
@@ -25,7 +25,7 @@ abbrev pub areDecimal : List ℕ → Bool
 areDecimal [] = true
 areDecimal (x ∷ xs) = pick (leb (digit x) 9) (areDecimal xs) false
 
--- a value with more digits behind it
+-- a value, with more digits behind it
 abbrev pub valueOn : ℕ → List ℕ → ℕ
 valueOn value [] = value
 valueOn value (x ∷ xs) = valueOn (value * 10 + digit x) xs

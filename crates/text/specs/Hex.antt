@@ -32,17 +32,21 @@ digit byte =
 abbrev pub byteOf : ℕ → ℕ → ℕ
 byteOf high low = pick (ltb (digit high) 16) (pick (ltb (digit low) 16) (digit high * 16 + digit low) 256) 256
 
--- the bytes that a line's rest spells, which begins at a place, put into a buffer behind the n that are in: pairs of digits, with blanks between
--- them or not; the answer is how many bytes are in at the line's end, or the place of what is no pair or finds no room
+-- the place of what is no pair or finds no room, and the buffer as it is by then
+abbrev pub stopped : ℕ → List ℕ → Ran Bytes
+stopped place buffer = record { answer = Wrong place; bytes = buffer }
+
+-- pairs of digits, with blanks between them or not, read off the rest of a line, which begins at a place, into a buffer that has n bytes already:
+-- the answer is how many it has at the line's end
 abbrev pub readOn : List ℕ → ℕ → List ℕ → ℕ → Ran Bytes
 readOn [] place buffer n = record { answer = Are n; bytes = buffer }
-readOn (x ∷ []) place buffer n = record { answer = pick (blank x) (Are n) (Wrong place); bytes = buffer }
+readOn (x ∷ []) place buffer n = pick (blank x) (record { answer = Are n; bytes = buffer }) (stopped place buffer)
 readOn (x ∷ y ∷ xs) place buffer n =
     pick (blank x) (readOn (y ∷ xs) (place + 1) buffer n)
     (pick (leb (byteOf x y) 255)
-    (pick (ltb n (length buffer)) (readOn xs (place + 2) (set buffer n (byteOf x y)) (n + 1)) (record { answer = Wrong place; bytes = buffer }))
-    (record { answer = Wrong place; bytes = buffer }))
+    (pick (ltb n (length buffer)) (readOn xs (place + 2) (set buffer n (byteOf x y)) (n + 1)) (stopped place buffer))
+    (stopped place buffer))
 
--- the bytes of a line from a place on, put to the front of a buffer
+-- the bytes of a line from a place on, read to the front of a buffer
 abbrev pub readBytes : List ℕ → ℕ → List ℕ → Ran Bytes
 readBytes line from buffer = readOn (rest line from) from buffer 0

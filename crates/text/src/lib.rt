@@ -101,7 +101,7 @@ pub fn is_word(line: &[u8], from: usize, end: usize, word: &[u8]) -> bool
     are_same(after(front(line, end), from), word)
 }
 
-// Puts bytes at a place of a text, where they fit, and answers the place behind them.
+// Puts a part at a place of a text, where it fits, and answers the place behind it.
 pub fn put(text: &mut [u8], at: usize, part: &[u8]) -> usize
     ensures { λ r. ⌜ Is (written (now (text .entry)) at (now (part .entry))) r (now (text .exit)) ⌝ }
 {
@@ -115,6 +115,7 @@ pub fn put(text: &mut [u8], at: usize, part: &[u8]) -> usize
     at + part.len()
 }
 
+// An upper-case digit.
 fn glyph(digit: u8) -> u8
     requires { ⌜ digit < 16 ⌝ }
     ensures { λ r. ⌜ r ≡ Hex·glyph digit ⌝ }
@@ -125,7 +126,7 @@ fn glyph(digit: u8) -> u8
     b'A' + (digit - 10)
 }
 
-// A blank and an upper-case pair.
+// Puts a blank and a byte as two digits.
 pub fn put_byte(text: &mut [u8], at: usize, byte: u8) -> usize
     ensures { λ r. ⌜ Is (writtenByte (now (text .entry)) at byte) r (now (text .exit)) ⌝ }
 {
@@ -133,7 +134,7 @@ pub fn put_byte(text: &mut [u8], at: usize, byte: u8) -> usize
     put(text, at, &pair)
 }
 
-// Bytes one behind the other, as far as there is room.
+// Puts bytes one behind the other, as far as there is room.
 pub fn put_bytes(text: &mut [u8], at: usize, bytes: &[u8]) -> usize
     ensures { λ r. ⌜ Is (writtenBytes (now (text .entry)) at (now (bytes .entry))) r (now (text .exit)) ⌝ }
 {
@@ -146,7 +147,7 @@ pub fn put_bytes(text: &mut [u8], at: usize, bytes: &[u8]) -> usize
     next
 }
 
-// A blank and a decimal number.
+// Puts a blank and a decimal number.
 pub fn put_number(text: &mut [u8], at: usize, n: u64) -> usize
     ensures { λ r. ⌜ Is (writtenNumber (now (text .entry)) at n) r (now (text .exit)) ⌝ }
 {
@@ -196,12 +197,13 @@ fn byte_of(high: u8, low: u8) -> u16
     higher as u16 * 16 + lower as u16
 }
 
+// How many bytes there are, or the place that is no pair or has no room.
 pub enum Bytes {
     Are(usize),
     Wrong(usize),
 }
 
-// Pairs of hex digits up to the end of the line: how many bytes they are, or the place that is no pair or has no room.
+// Reads pairs of hex digits up to the end of the line, to the front of bytes.
 pub fn read_bytes(line: &[u8], from: usize, bytes: &mut [u8]) -> Bytes
     ensures { λ r. ⌜ Is (readBytes (now (line .entry)) from (now (bytes .entry))) r (now (bytes .exit)) ⌝ }
 {
@@ -228,6 +230,7 @@ pub fn read_bytes(line: &[u8], from: usize, bytes: &mut [u8]) -> Bytes
     }
 }
 
+// A number and the place behind it, or the place of the word that is none.
 pub enum Number {
     Is { value: usize, next: usize },
     Wrong(usize),
@@ -280,7 +283,7 @@ fn number_of(word: &[u8], start: usize, next: usize) -> Number
     Number::Wrong(start)
 }
 
-// A decimal number of one to nine digits, and the place behind it.
+// Reads a decimal number of one to nine digits.
 pub fn read_number(line: &[u8], from: usize) -> Number
     ensures { λ r. ⌜ r ≡ readNumber (now (line .entry)) from ⌝ }
 {

@@ -1,6 +1,7 @@
 -- `text::are_decimal` meets its contract: what is left of the word decides.
 -- Assumes nothing.
 use borrow.Author.Needs.{needs}
+use native.Mathlib.Omega.{arith}
 use Prim.Native.Nat.{_-_}
 use mathlib.Core.Path.{_≡_, refl, _∙_}
 use denote.Ref.{now}
@@ -21,14 +22,14 @@ returns c =
     let called = c .before in
     let test = called .before .before in
     let loop = test .before in
-    no-digit (now (loop .before .before .args .word)) (loop .loop .i) (test .loop-test .taken) (called .digit .ensures) (c .if1 .taken) ∙ loop .loop .inv
+    no-digit (now (loop .before .before .args .word)) (loop .loop .i) (test .loop-test .taken) (called .digit .ensures) (omega (arith, c .if1 .taken)) ∙ loop .loop .inv
 
 loop-again : tie.Need-loop-again Inv-loop μ-loop
 loop-again c =
     let called = c .before in
     let test = called .before .before in
     let loop = test .before in
-    digit-on (now (loop .before .before .args .word)) (loop .loop .i) (test .loop-test .taken) (called .digit .ensures) (c .if1 .left) ∙ loop .loop .inv
+    digit-on (now (loop .before .before .args .word)) (loop .loop .i) (test .loop-test .taken) (called .digit .ensures) (omega (arith, c .if1 .left)) ∙ loop .loop .inv
 
 returns-2 : tie.Need-returns-2 Inv-loop μ-loop
 returns-2 c =

@@ -1,6 +1,7 @@
 -- `text::is_blank` meets its contract.
 -- Assumes nothing.
-use borrow.Author.Tests.{eq-eqb, ne-eqb}
+use borrow.Author.Tests.{eq-eqb}
+use Rattle.text.proofs.Lines.{no-space}
 use Rattle.text.proofs.is_blank.Statement.{statement}
 use Rattle.text.proofs.is_blank.Tie as tie
 
@@ -8,7 +9,7 @@ returns : tie.Need-returns
 returns c = simp (eq-eqb (c .before .args .byte) 32 (c .if1 .taken))
 
 returns-2 : tie.Need-returns-2
-returns-2 c = simp (ne-eqb (c .before .args .byte) 32 (c .if1 .left))
+returns-2 c = no-space (c .before .args .byte) (c .if1 .left)
 
 pub is-blank-spec : {M : Type 1} → statement M
 is-blank-spec = tie.close (tie.spec returns returns-2)

@@ -1,20 +1,18 @@
 -- `text::is_word` meets its contract.
 -- Assumes nothing.
 use borrow.Author.Needs.{needs}
-use Prim.Native.Nat.{ℕ}
-use mathlib.Core.Path.{ap, _∙_}
-use mathlib.Core.List.{List}
 use denote.Ref.{now}
-use Rattle.text.specs.Lines.{rest, same}
+use Rattle.text.proofs.Lines.{word-is}
 use Rattle.text.proofs.is_word.Statement.{statement}
 use Rattle.text.proofs.is_word.Tie as tie
 
 returns : tie.Need-returns
 returns c =
-    let before = c .before .before in
-    let a = before .before .before .before .args in
-    let part = c .before .after .ensures ∙ ap (λ (l : List ℕ). rest l (a .from)) (before .front .ensures) in
-    c .are-same .ensures ∙ ap (λ (l : List ℕ). same l (now (a .word))) part
+    let behind = c .before in
+    let front = behind .before in
+    let a = front .before .before .before .args in
+    word-is (now (a .line)) (now (a .word)) (a .from) (a .end) (now (front .front .result)) (now (behind .after .result)) (c .are-same .result)
+    (front .front .ensures) (behind .after .ensures) (c .are-same .ensures)
 
 pub is-word-spec : {M : Type 1} → statement M
 is-word-spec =

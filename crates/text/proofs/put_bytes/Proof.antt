@@ -3,7 +3,6 @@
 use borrow.Author.Needs.{needs}
 use Prim.Native.Nat.{ℕ, _-_}
 use mathlib.Core.Path.{_≡_, refl, subst, _∙_}
-use mathlib.Core.List.{List}
 use denote.Ref.{now}
 use lib.ListN.{length, drop}
 use Rattle.model.specs.Contract.{Ran, Is}
@@ -25,7 +24,11 @@ loop-again c =
     let test = called .before .before .before in
     let loop = test .before in
     let bytes = now (loop .before .before .before .args .bytes) in
-    (puts-on (loop .loop .text) bytes (loop .loop .next) (loop .loop .i) (test .loop-test .taken) (called .put-byte .ensures) ∙ loop .loop .inv .0, search needs)
+    let l = loop .loop in (
+      puts-on (l .text) bytes (l .next) (l .i) {r = called .put-byte .result} {exit = called .put-byte .last .0} (test .loop-test .taken) (called .put-byte .ensures)
+          ∙ l .inv .0,
+      search needs,
+    )
 
 returns : tie.Need-returns Inv-loop μ-loop
 returns c =

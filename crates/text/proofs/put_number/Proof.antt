@@ -16,7 +16,10 @@ returns c =
     let spelled = first .before .before .before in
     let a = spelled .before .before .before .args in
     let told = spelled .decimal .ensures in
-    puts-number (now (a .text)) (a .at) (a .n) (first .put .ensures) (told .1 .1 ∙ decimal-is 20 (spelled .decimal .result) (a .n) (told .1 .0) (at-most-twenty (a .n) (spelled .decimal .result) (told .1 .0) (omega arith))) (last .put2 .ensures)
+    let count = spelled .decimal .result in
+    let same = told .1 .1 ∙ decimal-is 20 count (a .n) (told .1 .0) (at-most-twenty (a .n) count (told .1 .0) (omega arith)) in
+    puts-number (now (a .text)) (a .at) (a .n) {blank = first .put .result} {r = last .put2 .result} {between = first .put .last .0} {exit = last .put2 .last .0}
+    (first .put .ensures) same (last .put2 .ensures)
 
 pub put-number-spec : {M : Type 1} → statement M
 put-number-spec =

@@ -63,7 +63,7 @@ returns-4 c =
     ended (Wrong start) (l .bytes)
     (sym (l .inv .0)
     ∙ at-no-room line (l .bytes) (l .i) (l .n) start (skip .skip .ensures) (omega (arith, long .before .if1 .left, long .if2 .left))
-    (called .byte-of .result) (called .byte-of .ensures) (c .before .if3 .left) (c .if4 .taken))
+    (called .byte-of .result) (called .byte-of .ensures) (c .before .if3 .left) (omega (arith, c .if4 .taken)))
 
 loop-again : tie.Need-loop-again Inv-loop μ-loop
 loop-again c =
@@ -75,7 +75,7 @@ loop-again c =
     let l = loop .loop in
     let start = skip .skip .result in (
       at-pair line (l .bytes) (l .i) (l .n) start (skip .skip .ensures) (omega (arith, long .before .if1 .left, long .if2 .left))
-          (called .byte-of .result) (called .byte-of .ensures) (c .before .if3 .left) (c .if4 .left)
+          (called .byte-of .result) (called .byte-of .ensures) (c .before .if3 .left) (omega (arith, c .if4 .left))
           ∙ l .inv .0,
       search needs,
     )

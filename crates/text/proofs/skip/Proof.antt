@@ -1,7 +1,6 @@
 -- `text::skip` meets its contract: from where it stands, the first place that is no blank stays the same.
 -- Assumes nothing.
 use borrow.Author.Needs.{needs}
-use native.Mathlib.Omega.{arith}
 use Prim.Native.Nat.{_-_}
 use mathlib.Core.Path.{_≡_, refl, sym, _∙_}
 use denote.Ref.{now}

@@ -41,8 +41,11 @@ loop-again c =
     let loop = test .before in
     let word = now (loop .before .before .args .word) in
     let l = loop .loop in
-    let d = is-digit word (l .i) (test .loop-test .taken) (l .inv .1) in
-    (value-on word (l .i) (test .loop-test .taken) (l .value) (c .digit .ensures) ∙ l .inv .0, d .1, value-below (l .value) (l .i) (c .digit .result) (l .inv .2) (omega arith))
+    let d = is-digit word (l .i) (test .loop-test .taken) (l .inv .1) in (
+      value-on word (l .i) (test .loop-test .taken) (l .value) (c .digit .ensures) ∙ l .inv .0,
+      d .1,
+      value-below (l .value) (l .i) (c .digit .result) (l .inv .2) (omega arith),
+    )
 
 returns : tie.Need-returns Inv-loop μ-loop
 returns c =
