@@ -1,12 +1,13 @@
 -- The worked cases, by computation.
 -- Assumes nothing.
+use native.Mathlib.Omega.{arith}
 use mathlib.Core.Path.{refl}
 use lib.Ieee.{round, ofInt}
 use Rattle.model.specs.Times.{tL, tREF, tINACTIVE, tTO, tOSC, tDAC, milliseconds}
 use Rattle.cases.specs.Starred.{Starred}
 use Rattle.cases.specs.Replies.{Codes, Good-replies, Bad-replies, Pieces, Places}
 use Rattle.cases.specs.Sessions.{Changes, Requests, Feeds, Calibrations, Selecting, Given}
-use Rattle.cases.specs.Published.{Frames, Read, Refused, Transfers, Outputs, Received, Prescalers, Waits, Numbers, Values, Mild}
+use Rattle.cases.specs.Published.{Frames, Read, Refused, Transfers, Outputs, Received, Prescalers, Waits, Numbers, Values, Mild, Widest}
 
 pub starred : Starred
 unfolding tL tREF tINACTIVE tTO tOSC tDAC milliseconds round ofInt
@@ -123,3 +124,6 @@ selecting = refl
 
 pub given : Given
 given = refl
+
+pub widest : Widest
+widest = (omega arith, tt)
