@@ -1,6 +1,7 @@
 // What a call answered, as text.
 ghost use mathlib.Core.Path.{_≡_};
 ghost use Rattle.model.specs.Refusals.{numberOf};
+use crate::calls;
 use model::Answer;
 use model::Awaited;
 use model::Calibration;
@@ -111,14 +112,20 @@ pub fn put_used<'a>(
     }
 }
 
-fn put_awaited(text: &mut [u8], at: usize, awaited: Awaited) -> usize {
+// The command that a reply is awaited to, by the number of its name.
+fn name_of(awaited: Awaited) -> u8 {
     match awaited {
-        Awaited::Idn => text::put(text, at, b" [waiting idn"),
-        Awaited::ProtocolSelect { protocol: _ } => text::put(text, at, b" [waiting select"),
-        Awaited::SendRecv => text::put(text, at, b" [waiting send"),
-        Awaited::Idle { source: _ } => text::put(text, at, b" [waiting idle"),
-        Awaited::Echo => text::put(text, at, b" [waiting echo"),
+        Awaited::Idn => calls::IDN,
+        Awaited::ProtocolSelect { protocol: _ } => calls::SELECT,
+        Awaited::SendRecv => calls::SEND,
+        Awaited::Idle { source: _ } => calls::IDLE,
+        Awaited::Echo => calls::ECHO,
     }
+}
+
+fn put_awaited(text: &mut [u8], at: usize, awaited: Awaited) -> usize {
+    let next = text::put(text, at, b" [waiting ");
+    calls::put_name(text, next, name_of(awaited))
 }
 
 fn put_selected(text: &mut [u8], at: usize, protocol: u8) -> usize {

@@ -2,8 +2,10 @@
 use text::Bytes;
 use text::Number;
 
-// A call of the session that gives out bytes.
-pub enum Sender {
+// A call of the session that is fed nothing.
+pub enum Act {
+    PowerOn,
+    Pulse,
     Idn,
     Select,
     Exchange,
@@ -33,9 +35,7 @@ pub enum Buffer {
 }
 
 pub enum Call {
-    Powers,
-    Pulses,
-    Sends(Sender),
+    Acts(Act),
     Feeds,
     Tells(Question),
     Sets(Buffer),
@@ -110,20 +110,38 @@ fn number_of(line: &[u8], from: usize, end: usize, names: &[u8]) -> u8 {
     CALLS
 }
 
+// The names of the five commands, by their numbers.
+pub const IDN: u8 = 2;
+
+pub const SELECT: u8 = 3;
+
+pub const SEND: u8 = 4;
+
+pub const IDLE: u8 = 5;
+
+pub const ECHO: u8 = 6;
+
+// Puts the name of a number.
+pub fn put_name(text: &mut [u8], at: usize, k: u8) -> usize {
+    let names = NAMES;
+    let name = text::after(&names, k as usize * NAME);
+    text::put(text, at, text::front(name, text::word_end(name, 0)))
+}
+
 fn call_of(k: u8) -> Call {
     match k {
-        0 => Call::Powers,
-        1 => Call::Pulses,
-        2 => Call::Sends(Sender::Idn),
-        3 => Call::Sends(Sender::Select),
-        4 => Call::Sends(Sender::Exchange),
-        5 => Call::Sends(Sender::Idle),
-        6 => Call::Sends(Sender::Echo),
-        7 => Call::Sends(Sender::Reset),
-        8 => Call::Sends(Sender::Poll),
-        9 => Call::Sends(Sender::Read),
-        10 => Call::Sends(Sender::Calibrate),
-        11 => Call::Sends(Sender::Next),
+        0 => Call::Acts(Act::PowerOn),
+        1 => Call::Acts(Act::Pulse),
+        2 => Call::Acts(Act::Idn),
+        3 => Call::Acts(Act::Select),
+        4 => Call::Acts(Act::Exchange),
+        5 => Call::Acts(Act::Idle),
+        6 => Call::Acts(Act::Echo),
+        7 => Call::Acts(Act::Reset),
+        8 => Call::Acts(Act::Poll),
+        9 => Call::Acts(Act::Read),
+        10 => Call::Acts(Act::Calibrate),
+        11 => Call::Acts(Act::Next),
         12 => Call::Feeds,
         13 => Call::Tells(Question::Times),
         14 => Call::Tells(Question::Wait),
@@ -137,16 +155,17 @@ fn call_of(k: u8) -> Call {
     }
 }
 
-fn sender_takes(sender: Sender) -> Shape {
-    match sender {
-        Sender::Select => Shape::Protocol,
-        Sender::Exchange => Shape::Any,
-        Sender::Idle => Shape::Exactly { wanted: 14 },
-        Sender::Read => Shape::Number {
+fn act_takes(act: Act) -> Shape {
+    match act {
+        Act::PowerOn => Shape::Interface,
+        Act::Select => Shape::Protocol,
+        Act::Exchange => Shape::Any,
+        Act::Idle => Shape::Exactly { wanted: 14 },
+        Act::Read => Shape::Number {
             greatest: GREATEST,
             wanted: 0,
         },
-        Sender::Calibrate => Shape::Number {
+        Act::Calibrate => Shape::Number {
             greatest: 255,
             wanted: 10,
         },
@@ -167,9 +186,7 @@ fn question_takes(question: Question) -> Shape {
 
 fn takes(call: Call) -> Shape {
     match call {
-        Call::Powers => Shape::Interface,
-        Call::Pulses => Shape::Nothing,
-        Call::Sends(sender) => sender_takes(sender),
+        Call::Acts(act) => act_takes(act),
         Call::Feeds => Shape::Any,
         Call::Tells(question) => question_takes(question),
         Call::Sets(_) => Shape::Number {

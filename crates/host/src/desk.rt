@@ -1,10 +1,10 @@
 // A line and what is kept from line to line, answered: the session and the lent buffers go in and come back.
 use crate::answers;
 use crate::calls;
+use crate::calls::Act;
 use crate::calls::Asked;
 use crate::calls::Buffer;
 use crate::calls::Call;
-use crate::calls::Sender;
 use crate::faults;
 use crate::help;
 use crate::questions;
@@ -61,34 +61,39 @@ fn plan(prescaler: usize, given: &[u8]) -> Plan {
     }
 }
 
-fn send(sender: Sender, s: Session, number: usize, given: &[u8], out: &mut [u8]) -> Outcome {
-    match sender {
-        Sender::Idn => requests::idn(s, out),
-        Sender::Select => requests::protocol_select(
-            s,
-            text::at(given, 0),
-            text::after(given, 1),
-            out,
-        ),
-        Sender::Exchange => requests::send_recv(s, given, out),
-        Sender::Idle => requests::idle(s, settings::of_data(given), out),
-        Sender::Echo => requests::echo(s, out),
-        Sender::Reset => requests::reset(s, out),
-        Sender::Poll => requests::poll(s, out),
-        Sender::Read => requests::read(s, number, out),
-        Sender::Calibrate => calibrating::calibrate(s, plan(number, given), out),
-        Sender::Next => calibrating::calibrate_next(s, out),
+// spi is 0.
+fn interface(number: usize) -> Interface {
+    if number == 0 {
+        return Interface::Spi;
+    }
+    Interface::Uart
+}
+
+fn act(what: Act, s: Session, number: usize, given: &[u8], out: &mut [u8]) -> Outcome {
+    match what {
+        Act::PowerOn => session::power_on(s, interface(number)),
+        Act::Pulse => session::pulse(s),
+        Act::Idn => requests::idn(s, out),
+        Act::Select => requests::protocol_select(s, text::at(given, 0), text::after(given, 1), out),
+        Act::Exchange => requests::send_recv(s, given, out),
+        Act::Idle => requests::idle(s, settings::of_data(given), out),
+        Act::Echo => requests::echo(s, out),
+        Act::Reset => requests::reset(s, out),
+        Act::Poll => requests::poll(s, out),
+        Act::Read => requests::read(s, number, out),
+        Act::Calibrate => calibrating::calibrate(s, plan(number, given), out),
+        Act::Next => calibrating::calibrate_next(s, out),
     }
 }
 
 // With as much of the output as is lent.
-fn send_lent(sender: Sender, post: Post, number: usize, given: &[u8], out: &mut [u8]) -> Outcome {
+fn act_lent(what: Act, post: Post, number: usize, given: &[u8], out: &mut [u8]) -> Outcome {
     let s = post.session;
     let n = post.out;
     if n <= out.len() {
-        return send(sender, s, number, given, &mut out[0..n]);
+        return act(what, s, number, given, &mut out[0..n]);
     }
-    send(sender, s, number, given, out)
+    act(what, s, number, given, out)
 }
 
 fn answered(post: Post, outcome: Outcome, out: &[u8], text: &mut [u8]) -> Done {
@@ -101,29 +106,16 @@ fn answered(post: Post, outcome: Outcome, out: &[u8], text: &mut [u8]) -> Done {
     }
 }
 
-fn sends(
-    sender: Sender,
+fn acts(
+    what: Act,
     post: Post,
     number: usize,
     given: &[u8],
     out: &mut [u8],
     text: &mut [u8],
 ) -> Done {
-    let outcome = send_lent(sender, post, number, given, out);
+    let outcome = act_lent(what, post, number, given, out);
     answered(post, outcome, out, text)
-}
-
-fn powers(post: Post, number: usize, text: &mut [u8]) -> Done {
-    let s = post.session;
-    if number == 0 {
-        return answered(post, session::power_on(s, Interface::Spi), b"", text);
-    }
-    answered(post, session::power_on(s, Interface::Uart), b"", text)
-}
-
-fn pulses(post: Post, text: &mut [u8]) -> Done {
-    let s = post.session;
-    answered(post, session::pulse(s), b"", text)
 }
 
 // With as much of the reply room as is lent.
@@ -188,9 +180,7 @@ fn obey(
     text: &mut [u8],
 ) -> Done {
     match call {
-        Call::Powers => powers(post, number, text),
-        Call::Pulses => pulses(post, text),
-        Call::Sends(sender) => sends(sender, post, number, given, out, text),
+        Call::Acts(what) => acts(what, post, number, given, out, text),
         Call::Feeds => feeds(post, given, room, text),
         Call::Tells(question) => tells(post, questions::answer(question, given, text)),
         Call::Sets(buffer) => sets(buffer, post, number, text),

@@ -1,6 +1,7 @@
 // Questions that need no session: times, waits, bands, frames taken apart, and what SPI brings back.
 ghost use Prim.Native.Nat.{_≤_};
 use crate::answers;
+use crate::calls;
 use crate::calls::Question;
 use model::Flags;
 use model::Frame;
@@ -146,17 +147,17 @@ fn band(reference: u8, text: &mut [u8]) -> usize {
     }
 }
 
-// The name of the call that sends a frame.
-fn put_name(text: &mut [u8], frame: Frame) -> usize {
+// The call that sends a frame, by the number of its name.
+fn name_of(frame: Frame) -> u8 {
     match frame {
-        Frame::Idn => text::put(text, 0, b"idn"),
+        Frame::Idn => calls::IDN,
         Frame::ProtocolSelect {
             protocol: _,
             parameters: _,
-        } => text::put(text, 0, b"select"),
-        Frame::SendRecv { data: _ } => text::put(text, 0, b"send"),
-        Frame::Idle { settings: _ } => text::put(text, 0, b"idle"),
-        Frame::Echo => text::put(text, 0, b"echo"),
+        } => calls::SELECT,
+        Frame::SendRecv { data: _ } => calls::SEND,
+        Frame::Idle { settings: _ } => calls::IDLE,
+        Frame::Echo => calls::ECHO,
     }
 }
 
@@ -164,26 +165,25 @@ fn put_name(text: &mut [u8], frame: Frame) -> usize {
 fn command(part: &[u8], text: &mut [u8]) -> usize {
     match commands::read_command(part) {
         Reading::Taken(frame) => {
-            let n = put_name(text, frame);
+            let n = calls::put_name(text, 0, name_of(frame));
             text::put_bytes(text, n, text::after(part, 2))
         }
         Reading::Refused(refusal) => answers::put_refusal(text, refusal),
     }
 }
 
-fn put_answer(text: &mut [u8], at: usize, is: bool) -> usize {
-    if is {
-        return text::put(text, at, b" yes");
-    }
-    text::put(text, at, b" no")
-}
-
 fn flags(byte: u8, text: &mut [u8]) -> usize {
     let f: Flags = frames::spi::flags(byte);
-    let n = text::put(text, 0, b"read");
-    let n = put_answer(text, n, f.read);
-    let n = text::put(text, n, b" send");
-    put_answer(text, n, f.send)
+    if f.read {
+        if f.send {
+            return text::put(text, 0, b"read yes send yes");
+        }
+        return text::put(text, 0, b"read yes send no");
+    }
+    if f.send {
+        return text::put(text, 0, b"read no send yes");
+    }
+    text::put(text, 0, b"read no send no")
 }
 
 fn received(transfer: &[u8], text: &mut [u8]) -> usize {
