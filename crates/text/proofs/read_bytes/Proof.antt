@@ -2,8 +2,9 @@
 -- Assumes nothing.
 use borrow.Author.Needs.{needs}
 use native.Mathlib.Omega.{arith}
-use Prim.Native.Nat.{_-_}
+use Prim.Native.Nat.{ℕ, _+_, _-_, _≤_}
 use mathlib.Core.Path.{_≡_, refl, sym, _∙_}
+use mathlib.Core.List.{List}
 use denote.Ref.{now}
 use lib.ListN.{length, drop}
 use Rattle.text.specs.declared.Bytes.the-variants.{Are, Wrong}
@@ -18,64 +19,57 @@ Inv-loop line from bytes₀ i₀ n₀ bytes i n = (readOn (drop i line) i bytes 
 abbrev μ-loop : tie.MeasureT-loop
 μ-loop line from bytes₀ i₀ n₀ bytes i n = length line - i
 
+-- the line, seen from behind the blanks, and the place from where a pair was looked at
+abbrev whole : tie.After-skip Inv-loop μ-loop → List ℕ
+whole c = now (c .before .before .before .before .args .line)
+
+abbrev behind : tie.After-byte-of Inv-loop μ-loop → tie.After-skip Inv-loop μ-loop
+behind c = c .before .before .before .before .before
+
+-- a pair is there
+two-left : (c : tie.After-byte-of Inv-loop μ-loop) → behind c .skip .result + 2 ≤ length (whole (behind c))
+two-left c = let long = c .before .before .before in omega (arith, long .before .if1 .left, long .if2 .left)
+
 returns : tie.Need-returns Inv-loop μ-loop
 returns c =
-    let skip = c .before in
-    let loop = skip .before in
-    let line = now (loop .before .before .before .args .line) in
-    let l = loop .loop in
-    ended (Are (l .n)) (l .bytes) (sym (l .inv .0) ∙ at-end line (l .bytes) (l .i) (l .n) (skip .skip .result) (skip .skip .ensures) (c .if1 .taken))
+    let s = c .before in
+    let l = s .before .loop in
+    ended (Are (l .n)) (l .bytes) (sym (l .inv .0) ∙ at-end (whole s) (l .bytes) (l .i) (l .n) (s .skip .result) (s .skip .ensures) (c .if1 .taken))
 
 returns-2 : tie.Need-returns-2 Inv-loop μ-loop
 returns-2 c =
-    let skip = c .before .before in
-    let loop = skip .before in
-    let line = now (loop .before .before .before .args .line) in
-    let l = loop .loop in
-    let start = skip .skip .result in
-    ended (Wrong start) (l .bytes)
+    let s = c .before .before in
+    let l = s .before .loop in
+    ended (Wrong (s .skip .result)) (l .bytes)
     (sym (l .inv .0)
-    ∙ at-one line (l .bytes) (l .i) (l .n) start (skip .skip .ensures) (c .before .if1 .left) (omega (arith, c .before .if1 .left, c .if2 .taken)))
+    ∙ at-one (whole s) (l .bytes) (l .i) (l .n) (s .skip .result) (s .skip .ensures) (c .before .if1 .left) (omega (arith, c .before .if1 .left, c .if2 .taken)))
 
 returns-3 : tie.Need-returns-3 Inv-loop μ-loop
 returns-3 c =
-    let called = c .before in
-    let long = called .before .before .before in
-    let skip = long .before .before in
-    let loop = skip .before in
-    let line = now (loop .before .before .before .args .line) in
-    let l = loop .loop in
-    let start = skip .skip .result in
-    ended (Wrong start) (l .bytes)
+    let p = c .before in
+    let s = behind p in
+    let l = s .before .loop in
+    ended (Wrong (s .skip .result)) (l .bytes)
     (sym (l .inv .0)
-    ∙ at-no-pair line (l .bytes) (l .i) (l .n) start (skip .skip .ensures) (omega (arith, long .before .if1 .left, long .if2 .left))
-    (called .byte-of .result) (called .byte-of .ensures) (c .if3 .taken))
+    ∙ at-no-pair (whole s) (l .bytes) (l .i) (l .n) (s .skip .result) (s .skip .ensures) (two-left p) (p .byte-of .result) (p .byte-of .ensures) (c .if3 .taken))
 
 returns-4 : tie.Need-returns-4 Inv-loop μ-loop
 returns-4 c =
-    let called = c .before .before in
-    let long = called .before .before .before in
-    let skip = long .before .before in
-    let loop = skip .before in
-    let line = now (loop .before .before .before .args .line) in
-    let l = loop .loop in
-    let start = skip .skip .result in
-    ended (Wrong start) (l .bytes)
+    let p = c .before .before in
+    let s = behind p in
+    let l = s .before .loop in
+    ended (Wrong (s .skip .result)) (l .bytes)
     (sym (l .inv .0)
-    ∙ at-no-room line (l .bytes) (l .i) (l .n) start (skip .skip .ensures) (omega (arith, long .before .if1 .left, long .if2 .left))
-    (called .byte-of .result) (called .byte-of .ensures) (c .before .if3 .left) (omega (arith, c .if4 .taken)))
+    ∙ at-no-room (whole s) (l .bytes) (l .i) (l .n) (s .skip .result) (s .skip .ensures) (two-left p) (p .byte-of .result) (p .byte-of .ensures)
+    (c .before .if3 .left) (omega (arith, c .if4 .taken)))
 
 loop-again : tie.Need-loop-again Inv-loop μ-loop
 loop-again c =
-    let called = c .before .before in
-    let long = called .before .before .before in
-    let skip = long .before .before in
-    let loop = skip .before in
-    let line = now (loop .before .before .before .args .line) in
-    let l = loop .loop in
-    let start = skip .skip .result in (
-      at-pair line (l .bytes) (l .i) (l .n) start (skip .skip .ensures) (omega (arith, long .before .if1 .left, long .if2 .left))
-          (called .byte-of .result) (called .byte-of .ensures) (c .before .if3 .left) (omega (arith, c .if4 .left))
+    let p = c .before .before in
+    let s = behind p in
+    let l = s .before .loop in (
+      at-pair (whole s) (l .bytes) (l .i) (l .n) (s .skip .result) (s .skip .ensures) (two-left p) (p .byte-of .result) (p .byte-of .ensures)
+          (c .before .if3 .left) (omega (arith, c .if4 .left))
           ∙ l .inv .0,
       search needs,
     )
