@@ -17,15 +17,15 @@ use Rattle.model.proofs.Words.{each}
 use Rattle.text.specs.declared.Bytes.the-variants.{Are}
 use Rattle.text.specs.Lines.{blank}
 use Rattle.text.specs.Hex.{pair, byteOf, readOn, readBytes}
-use Rattle.text.specs.Writing.{written, writtenBytes}
+use Rattle.text.specs.Writing.{placed, written, hexes}
 use Rattle.text.specs.Claims.{line, BytesBack}
 
 -- a part that fits
 pub fitting : (text part : List ℕ) (at : ℕ) → at + length part ≤ length text
-    → written text at part ≡ record { answer = at + length part; bytes = paste text at part (length part) }
+    → placed text at part ≡ record { answer = at + length part; bytes = paste text at part (length part) }
 fitting text part at h = simp (le-leb (at + length part) (length text) h)
 
-pub line-fitting : (text part : List ℕ) (at : ℕ) → at + length part ≤ length text → line (written text at part) ≡ take at text ++ part
+pub line-fitting : (text part : List ℕ) (at : ℕ) → at + length part ≤ length text → line (placed text at part) ≡ take at text ++ part
 line-fitting text part at h =
     ap line (fitting text part at h)
     ∙ take-paste text at part (length part) (omega arith) (omega arith)
@@ -36,14 +36,14 @@ abbrev spelled : List ℕ → List ℕ
 spelled [] = []
 spelled (b ∷ bs) = 32 ∷ pair b ++ spelled bs
 
-line-bytes : (bs text : List ℕ) (at : ℕ) → at + 3 * length bs ≤ length text → line (writtenBytes text at bs) ≡ take at text ++ spelled bs
+line-bytes : (bs text : List ℕ) (at : ℕ) → at + 3 * length bs ≤ length text → line (written text at (hexes bs)) ≡ take at text ++ spelled bs
 line-bytes [] text at h = sym (append-nil (take at text))
 line-bytes (b ∷ bs) text at h =
     let part : List ℕ = 32 ∷ pair b in
     let fits : at + 3 ≤ length text = omega arith in
     let next = paste text at part 3 in
     let long : length next ≡ length text = length-paste text at part 3 fits (omega arith) in
-    ap (λ (w : Ran ℕ). line (writtenBytes (w .bytes) (w .answer) bs)) (fitting text part at fits)
+    ap (λ (w : Ran ℕ). line (written (w .bytes) (w .answer) (hexes bs))) (fitting text part at fits)
     ∙ line-bytes bs next (at + 3) (omega arith)
     ∙ ap (λ (l : List ℕ). l ++ spelled bs) (take-paste text at part 3 (omega arith) (omega arith))
     ∙ append-assoc (take at text) part (spelled bs)

@@ -18,7 +18,7 @@ use Rattle.text.specs.declared.Number.the-variants.{Is}
 use Rattle.text.specs.Lines.{blank, blanks, wordLength, skipped, wordEnd, between}
 use Rattle.text.specs.Hex.{digit}
 use Rattle.text.specs.Decimal.{decimals, decimal, areDecimal, valueOn, valueOf, readNumber}
-use Rattle.text.specs.Writing.{written, writtenNumber}
+use Rattle.text.specs.Writing.{placed, written, number}
 use Rattle.text.specs.Claims.{line, NumberBack}
 use Rattle.text.proofs.Decimal.{front-digit, number-is, number-at}
 use Rattle.text.proofs.BytesBack.{fitting, line-fitting}
@@ -137,10 +137,10 @@ number-back text at n small room =
     let next = paste text at blank 1 in
     let long : length next ≡ length text = length-paste text at blank 1 (omega arith) (omega arith) in
     let first = fitting text blank at (omega arith) in
-    let written-is : writtenNumber text at n ≡ written next (at + 1) digits = ap (λ (w : Ran ℕ). written (w .bytes) (w .answer) digits) first in
-    let end : writtenNumber text at n .answer ≡ at + 1 + length digits =
+    let written-is : written text at (number n) ≡ placed next (at + 1) digits = ap (λ (w : Ran ℕ). placed (w .bytes) (w .answer) digits) first in
+    let end : written text at (number n) .answer ≡ at + 1 + length digits =
     ap (λ (w : Ran ℕ). w .answer) (written-is ∙ fitting next digits (at + 1) (omega arith)) in
-    let text-is : line (writtenNumber text at n) ≡ take at text ++ (32 ∷ digits) =
+    let text-is : line (written text at (number n)) ≡ take at text ++ (32 ∷ digits) =
     ap line written-is
     ∙ line-fitting next digits (at + 1) (omega arith)
     ∙ ap (λ (xs : List ℕ). xs ++ digits) (take-paste text at blank 1 (omega arith) (omega arith))

@@ -3,7 +3,7 @@
 use Prim.Native.Nat.{ℕ, suc, _+_, _/_, _%_, _≤_, _<_}
 use native.Mathlib.Numerals.{add-one}
 use mathlib.Core.Path.{_≡_, refl, ap₂, subst, _∙_}
-use mathlib.Core.List.{List, [], _∷_}
+use mathlib.Core.List.{List, [], _∷_, _++_}
 use lib.ListN.{length, drop, getD, drop-of-length-le}
 use lib.Seq.{drop-cons}
 use borrow.Author.Tests.{le-leb, lt-leb}
@@ -12,37 +12,50 @@ use Rattle.model.specs.Contract.{Is}
 use Rattle.buffers.proofs.Pasting.{fits}
 use Rattle.text.specs.Hex.{glyph}
 use Rattle.text.specs.Decimal.{decimal}
-use Rattle.text.specs.Writing.{written, writtenByte, writtenBytes, writtenNumber}
+use Rattle.text.specs.Writing.{written, Writes, hex, hexes, number}
 
 module _ (text part : List ℕ) (at : ℕ) where
   pub puts : (r : ℕ) (exit : List ℕ) → at + length part ≤ length text → r ≡ at + length part → exit ≡ pasted text part at
-      → Is (written text at part) r exit
-  puts r exit h e x = simp (le-leb (at + length part) (length text) h) (record { answer = e; bytes = x ∙ fits text part at h })
+      → Writes text at (part ∷ []) r exit
+  puts r exit h e x =
+      record { is = simp (le-leb (at + length part) (length text) h) (record { answer = e; bytes = x ∙ fits text part at h }) }
 
-  pub puts-nothing : length text < at + length part → Is (written text at part) at text
-  puts-nothing h = simp (lt-leb (at + length part) (length text) h) (record { answer = refl; bytes = refl })
+  pub puts-nothing : length text < at + length part → Writes text at (part ∷ []) at text
+  puts-nothing h = record { is = simp (lt-leb (at + length part) (length text) h) (record { answer = refl; bytes = refl }) }
+
+-- parts, then more parts
+joined : (parts more : List (List ℕ)) (text : List ℕ) (at : ℕ) {next r : ℕ} {between exit : List ℕ} → Is (written text at parts) next between
+    → Is (written between next more) r exit → Is (written text at (parts ++ more)) r exit
+joined [] more text at {next} {r} {between} {exit} first rest =
+    subst (λ (p : ℕ). Is (written text p more) r exit) (first .answer)
+    (subst (λ (t : List ℕ). Is (written t next more) r exit) (first .bytes) rest)
+joined (part ∷ parts) more text at first rest =
+    let one = written text at (part ∷ []) in joined parts more (one .bytes) (one .answer) first rest
+
+infixr 40 _then_
+pub _then_ : {parts more : List (List ℕ)} {text between exit : List ℕ} {at next r : ℕ} → Writes text at parts next between
+    → Writes between next more r exit → Writes text at (parts ++ more) r exit
+_then_ {parts} {more} {text} {at = at} first rest = record { is = joined parts more text at (first .is) (rest .is) }
 
 -- a pair by its digits
-pub puts-pair : (text : List ℕ) (at byte : ℕ) {high low r : ℕ} {exit : List ℕ} → high ≡ glyph (byte / 16) → low ≡ glyph (byte % 16)
-    → Is (written text at (32 ∷ high ∷ low ∷ [])) r exit → Is (writtenByte text at byte) r exit
-puts-pair text at byte {high} {low} {r} {exit} h l is =
-    subst (λ (x : ℕ). Is (written text at (32 ∷ x ∷ glyph (byte % 16) ∷ [])) r exit) h
-    (subst (λ (x : ℕ). Is (written text at (32 ∷ high ∷ x ∷ [])) r exit) l is)
+pub puts-pair : (byte : ℕ) {text exit : List ℕ} {at high low r : ℕ} → high ≡ glyph (byte / 16) → low ≡ glyph (byte % 16)
+    → Writes text at ((32 ∷ high ∷ low ∷ []) ∷ []) r exit → Writes text at (hex byte ∷ []) r exit
+puts-pair byte {text} {exit} {at} {high} {low} {r} h l is =
+    subst (λ (x : ℕ). Writes text at ((32 ∷ x ∷ glyph (byte % 16) ∷ []) ∷ []) r exit) h
+    (subst (λ (x : ℕ). Writes text at ((32 ∷ high ∷ x ∷ []) ∷ []) r exit) l is)
 
 -- one byte more
-pub puts-on : (text bytes : List ℕ) (at i : ℕ) {r : ℕ} {exit : List ℕ} → i < length bytes → Is (writtenByte text at (getD bytes i 0)) r exit
-    → writtenBytes exit r (drop (i + 1) bytes) ≡ writtenBytes text at (drop i bytes)
-puts-on text bytes at i {r} {exit} h is =
-    rw (add-one i, drop-cons bytes i 0 h) (ap₂ (λ (t : List ℕ) (p : ℕ). writtenBytes t p (drop (suc i) bytes)) (is .bytes) (is .answer))
+pub puts-on : (bytes : List ℕ) (i : ℕ) {text exit : List ℕ} {at r : ℕ} → i < length bytes → Writes text at (hex (getD bytes i 0) ∷ []) r exit
+    → written exit r (hexes (drop (i + 1) bytes)) ≡ written text at (hexes (drop i bytes))
+puts-on bytes i h writes =
+    rw (add-one i, drop-cons bytes i 0 h)
+    (ap₂ (λ (t : List ℕ) (p : ℕ). written t p (hexes (drop (suc i) bytes))) (writes .is .bytes) (writes .is .answer))
 
-pub puts-done : (text bytes : List ℕ) (at i : ℕ) → length bytes ≤ i → Is (writtenBytes text at (drop i bytes)) at text
+pub puts-done : (text bytes : List ℕ) (at i : ℕ) → length bytes ≤ i → Is (written text at (hexes (drop i bytes))) at text
 puts-done text bytes at i h = rw (drop-of-length-le bytes {i = i} h) (record { answer = refl; bytes = refl })
 
 -- a blank, then digits
-pub puts-number : (text : List ℕ) (at n : ℕ) {blank r : ℕ} {between exit digits : List ℕ} → Is (written text at (32 ∷ [])) blank between
-    → digits ≡ decimal n → Is (written between blank digits) r exit → Is (writtenNumber text at n) r exit
-puts-number text at n {blank} {r} {between} {exit} {digits} b d is =
-    let first = written text at (32 ∷ []) in
-    subst (λ (p : ℕ). Is (written (first .bytes) p (decimal n)) r exit) (b .answer)
-    (subst (λ (t : List ℕ). Is (written t blank (decimal n)) r exit) (b .bytes)
-    (subst (λ (l : List ℕ). Is (written between blank l) r exit) d is))
+pub puts-number : (n : ℕ) {text between exit digits : List ℕ} {at next r : ℕ} → Writes text at ((32 ∷ []) ∷ []) next between → digits ≡ decimal n
+    → Writes between next (digits ∷ []) r exit → Writes text at (number n) r exit
+puts-number n {between = between} {exit} {next = next} {r} blank is rest =
+    blank then subst (λ (l : List ℕ). Writes between next (l ∷ []) r exit) is rest

@@ -11,7 +11,7 @@ use Rattle.text.specs.declared.Number.the-variants.{Is}
 use Rattle.text.specs.Lines.{fore}
 use Rattle.text.specs.Hex.{readBytes}
 use Rattle.text.specs.Decimal.{decimal, readNumber}
-use Rattle.text.specs.Writing.{writtenBytes, writtenNumber}
+use Rattle.text.specs.Writing.{written, hexes, number}
 
 -- a text up to the place behind what was written
 abbrev pub line : Ran ℕ → List ℕ
@@ -22,11 +22,11 @@ line w = fore (w .bytes) (w .answer)
 abbrev pub BytesBack : Type 0
 BytesBack =
     (text bytes buffer : List ℕ) (at : ℕ) → Bytes bytes → at + 3 * length bytes ≤ length text → length bytes ≤ length buffer
-    → readBytes (line (writtenBytes text at bytes)) at buffer
+    → readBytes (line (written text at (hexes bytes))) at buffer
     ≡ record { answer = Are (length bytes); bytes = bytes ++ drop (length bytes) buffer }
 
 -- a number of up to nine digits, written into a text that has room for it, is read from there on, up to the place behind it
 abbrev pub NumberBack : Type 0
 NumberBack =
     (text : List ℕ) (at n : ℕ) → n < 10 ^ 9 → at + 1 + length (decimal n) ≤ length text
-    → readNumber (line (writtenNumber text at n)) at ≡ Is n (writtenNumber text at n .answer)
+    → readNumber (line (written text at (number n))) at ≡ Is n (written text at (number n) .answer)

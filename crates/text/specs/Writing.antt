@@ -1,31 +1,49 @@
--- Writing into a text: a part at a place, and the place behind it.
+-- Writing into a text: parts at a place, one behind the other, and the place behind them.
 -- Assumes nothing.
 use Prim.Native.Nat.{ℕ, _+_}
+use Prim.Native.Char.{code}
+use Prim.Native.String.{String, [] as nothing, _∷_ as _then_}
 use mathlib.Core.List.{List, [], _∷_}
 use lib.Dec.{leb}
 use lib.ListN.{length}
 use lib.Seq.{paste}
 use Rattle.model.specs.Words.{pick}
-use Rattle.model.specs.Contract.{Ran}
+use Rattle.model.specs.Contract.{Ran, Is}
 use Rattle.text.specs.Hex.{pair}
 use Rattle.text.specs.Decimal.{decimal}
 
 -- a part put at a place, and the place behind it, where it fits; otherwise text and place as they were
-abbrev pub written : List ℕ → ℕ → List ℕ → Ran ℕ
-written text at part =
+abbrev pub placed : List ℕ → ℕ → List ℕ → Ran ℕ
+placed text at part =
     pick (leb (at + length part) (length text))
     (record { answer = at + length part; bytes = paste text at part (length part) })
     (record { answer = at; bytes = text })
 
--- a blank and a pair of hex digits
-abbrev pub writtenByte : List ℕ → ℕ → ℕ → Ran ℕ
-writtenByte text at byte = written text at (32 ∷ pair byte)
+-- parts put one behind the other, each where it fits
+abbrev pub written : List ℕ → ℕ → List (List ℕ) → Ran ℕ
+written text at [] = record { answer = at; bytes = text }
+written text at (part ∷ parts) = let one = placed text at part in written (one .bytes) (one .answer) parts
 
--- one byte behind the other
-abbrev pub writtenBytes : List ℕ → ℕ → List ℕ → Ran ℕ
-writtenBytes text at [] = record { answer = at; bytes = text }
-writtenBytes text at (b ∷ bs) = let one = writtenByte text at b in writtenBytes (one .bytes) (one .answer) bs
+-- writing the parts may answer r and leave exit
+pub record Writes (text : List ℕ) (at : ℕ) (parts : List (List ℕ)) (r : ℕ) (exit : List ℕ) : Type 0 where
+  pub is : Is (written text at parts) r exit
+
+-- ---- parts
+
+-- the bytes of a word
+abbrev pub word : String → List ℕ
+word nothing = []
+word (letter then letters) = code letter ∷ word letters
+
+-- a blank and a pair of hex digits
+abbrev pub hex : ℕ → List ℕ
+hex byte = 32 ∷ pair byte
+
+-- each byte so
+abbrev pub hexes : List ℕ → List (List ℕ)
+hexes [] = []
+hexes (byte ∷ bytes) = hex byte ∷ hexes bytes
 
 -- a blank, then a decimal number
-abbrev pub writtenNumber : List ℕ → ℕ → ℕ → Ran ℕ
-writtenNumber text at n = let blank = written text at (32 ∷ []) in written (blank .bytes) (blank .answer) (decimal n)
+abbrev pub number : ℕ → List (List ℕ)
+number n = (32 ∷ []) ∷ decimal n ∷ []

@@ -1,6 +1,7 @@
 // Text of a line, read and written at places. Every function answers for every input.
 ghost use mathlib.Core.Path.{_≡_};
 ghost use mathlib.Core.Bool.{true};
+ghost use mathlib.Core.List.{[], _∷_};
 ghost use Prim.Native.Nat.{_≤_, _<_};
 ghost use lib.ListN.{length};
 ghost use Rattle.model.specs.Contract.{Is};
@@ -9,7 +10,7 @@ ghost use Rattle.text.specs.Hex.{byteOf, readBytes};
 ghost use Rattle.text.specs.Hex.{glyph as Hex·glyph};
 ghost use Rattle.text.specs.Hex.{digit as Hex·digit};
 ghost use Rattle.text.specs.Decimal.{areDecimal, valueOf, numberOf, readNumber};
-ghost use Rattle.text.specs.Writing.{written, writtenByte, writtenBytes, writtenNumber};
+ghost use Rattle.text.specs.Writing.{Writes, hex, hexes, number};
 
 // The first n bytes, or all where there are fewer.
 pub fn front(bytes: &[u8], n: usize) -> &[u8]
@@ -103,7 +104,7 @@ pub fn is_word(line: &[u8], from: usize, end: usize, word: &[u8]) -> bool
 
 // Puts a part at a place of a text, where it fits, and answers the place behind it.
 pub fn put(text: &mut [u8], at: usize, part: &[u8]) -> usize
-    ensures { λ r. ⌜ Is (written (now (text .entry)) at (now (part .entry))) r (now (text .exit)) ⌝ }
+    ensures { λ r. ⌜ Writes (now (text .entry)) at (now (part .entry) ∷ []) r (now (text .exit)) ⌝ }
 {
     if text.len() < at {
         return at;
@@ -128,7 +129,7 @@ fn glyph(digit: u8) -> u8
 
 // Puts a blank and a byte as two digits.
 pub fn put_byte(text: &mut [u8], at: usize, byte: u8) -> usize
-    ensures { λ r. ⌜ Is (writtenByte (now (text .entry)) at byte) r (now (text .exit)) ⌝ }
+    ensures { λ r. ⌜ Writes (now (text .entry)) at (hex byte ∷ []) r (now (text .exit)) ⌝ }
 {
     let pair = [b' ', glyph(byte / 16), glyph(byte % 16)];
     put(text, at, &pair)
@@ -136,7 +137,7 @@ pub fn put_byte(text: &mut [u8], at: usize, byte: u8) -> usize
 
 // Puts bytes one behind the other, as far as there is room.
 pub fn put_bytes(text: &mut [u8], at: usize, bytes: &[u8]) -> usize
-    ensures { λ r. ⌜ Is (writtenBytes (now (text .entry)) at (now (bytes .entry))) r (now (text .exit)) ⌝ }
+    ensures { λ r. ⌜ Writes (now (text .entry)) at (hexes (now (bytes .entry))) r (now (text .exit)) ⌝ }
 {
     let mut next = at;
     let mut i = 0;
@@ -149,7 +150,7 @@ pub fn put_bytes(text: &mut [u8], at: usize, bytes: &[u8]) -> usize
 
 // Puts a blank and a decimal number.
 pub fn put_number(text: &mut [u8], at: usize, n: u64) -> usize
-    ensures { λ r. ⌜ Is (writtenNumber (now (text .entry)) at n) r (now (text .exit)) ⌝ }
+    ensures { λ r. ⌜ Writes (now (text .entry)) at (number n) r (now (text .exit)) ⌝ }
 {
     let mut digits = [0u8; 20];
     let count = io::decimal(n, &mut digits);

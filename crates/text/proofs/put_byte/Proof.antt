@@ -11,7 +11,7 @@ returns c =
     let called = c .before .before in
     let low = called .before .before .before in
     let a = low .before .before .before .args in
-    puts-pair (now (a .text)) (a .at) (a .byte) (low .before .glyph .ensures) (low .glyph2 .ensures) (called .put .ensures)
+    puts-pair (a .byte) (low .before .glyph .ensures) (low .glyph2 .ensures) (called .put .ensures)
 
 pub put-byte-spec : {M : Type 1} → statement M
 put-byte-spec =

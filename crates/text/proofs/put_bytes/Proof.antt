@@ -6,14 +6,14 @@ use mathlib.Core.Path.{_≡_, refl, subst, _∙_}
 use denote.Ref.{now}
 use lib.ListN.{length, drop}
 use Rattle.model.specs.Contract.{Ran, Is}
-use Rattle.text.specs.Writing.{writtenBytes}
+use Rattle.text.specs.Writing.{written, hexes}
 use Rattle.text.proofs.Writing.{puts-on, puts-done}
 use Rattle.text.proofs.put_bytes.Statement.{statement}
 use Rattle.text.proofs.put_bytes.Tie as tie
 
 abbrev Inv-loop : tie.InvT-loop
 Inv-loop text₀ at bytes next₀ i₀ text next i =
-    (writtenBytes text next (drop i bytes) ≡ writtenBytes text₀ at bytes) × (length text₀ ≡ length text)
+    (written text next (hexes (drop i bytes)) ≡ written text₀ at (hexes bytes)) × (length text₀ ≡ length text)
 
 abbrev μ-loop : tie.MeasureT-loop
 μ-loop text₀ at bytes next₀ i₀ text next i = length bytes - i
@@ -25,8 +25,7 @@ loop-again c =
     let loop = test .before in
     let bytes = now (loop .before .before .before .args .bytes) in
     let l = loop .loop in (
-      puts-on (l .text) bytes (l .next) (l .i) {r = called .put-byte .result} {exit = called .put-byte .last .0} (test .loop-test .taken) (called .put-byte .ensures)
-          ∙ l .inv .0,
+      puts-on bytes (l .i) (test .loop-test .taken) (called .put-byte .ensures) ∙ l .inv .0,
       search needs,
     )
 
@@ -34,8 +33,12 @@ returns : tie.Need-returns Inv-loop μ-loop
 returns c =
     let loop = c .before in
     let bytes = now (loop .before .before .before .args .bytes) in
-    subst (λ (m : Ran ℕ). Is m (loop .loop .next) (loop .loop .text)) (loop .loop .inv .0)
-    (puts-done (loop .loop .text) bytes (loop .loop .next) (loop .loop .i) (c .loop-test .left))
+    let l = loop .loop in
+    record {
+      is =
+          subst (λ (m : Ran ℕ). Is m (l .next) (l .text)) (l .inv .0)
+          (puts-done (l .text) bytes (l .next) (l .i) (c .loop-test .left));
+    }
 
 pub put-bytes-spec : {M : Type 1} → statement M
 put-bytes-spec =

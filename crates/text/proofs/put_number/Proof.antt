@@ -18,8 +18,7 @@ returns c =
     let told = spelled .decimal .ensures in
     let count = spelled .decimal .result in
     let same = told .1 .1 ∙ decimal-is 20 count (a .n) (told .1 .0) (at-most-twenty (a .n) count (told .1 .0) (omega arith)) in
-    puts-number (now (a .text)) (a .at) (a .n) {blank = first .put .result} {r = last .put2 .result} {between = first .put .last .0} {exit = last .put2 .last .0}
-    (first .put .ensures) same (last .put2 .ensures)
+    puts-number (a .n) (first .put .ensures) same (last .put2 .ensures)
 
 pub put-number-spec : {M : Type 1} → statement M
 put-number-spec =
