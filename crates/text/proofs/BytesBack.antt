@@ -5,48 +5,28 @@ use native.Mathlib.Numerals.{add-one}
 use native.Mathlib.Omega.{arith}
 use mathlib.Core.Path.{_≡_, refl, sym, ap, _∙_}
 use mathlib.Core.Bool.{Bool, true, false, _&&_, not}
-use mathlib.Core.List.{List, [], _∷_, _++_, append-nil, append-assoc}
+use mathlib.Core.List.{List, [], _∷_}
 use lib.Dec.{T, eqb, eqb→eq}
 use lib.Ieee.Fits.{and-l, and-r}
 use lib.ListN.{length, getD, take, set, length-set}
-use lib.Seq.{paste, take-length, take-paste, length-paste, length-take-le, drop-at, sets, sets-eq}
+use lib.Seq.{length-take-le, drop-at, sets, sets-eq}
 use borrow.Author.Tests.{le-leb, lt-ltb}
-use Rattle.model.specs.Words.{Bytes}
-use Rattle.model.specs.Contract.{Ran}
+use Rattle.model.specs.Words.{Bytes, concat}
 use Rattle.model.proofs.Words.{each}
 use Rattle.text.specs.declared.Bytes.the-variants.{Are}
 use Rattle.text.specs.Lines.{blank}
 use Rattle.text.specs.Hex.{pair, byteOf, readOn, readBytes}
-use Rattle.text.specs.Writing.{placed, written, hexes}
-use Rattle.text.specs.Claims.{line, BytesBack}
-
--- a part that fits
-pub fitting : (text part : List ℕ) (at : ℕ) → at + length part ≤ length text
-    → placed text at part ≡ record { answer = at + length part; bytes = paste text at part (length part) }
-fitting text part at h = simp (le-leb (at + length part) (length text) h)
-
-pub line-fitting : (text part : List ℕ) (at : ℕ) → at + length part ≤ length text → line (placed text at part) ≡ take at text ++ part
-line-fitting text part at h =
-    ap line (fitting text part at h)
-    ∙ take-paste text at part (length part) (omega arith) (omega arith)
-    ∙ ap (λ (l : List ℕ). take at text ++ l) (take-length part)
+use Rattle.text.specs.Writing.{hexes}
+use Rattle.text.specs.Claims.{BytesBack}
+use Rattle.text.proofs.Joined.{joined}
 
 -- bytes as text
 abbrev spelled : List ℕ → List ℕ
-spelled [] = []
-spelled (b ∷ bs) = 32 ∷ pair b ++ spelled bs
+spelled bs = concat (hexes bs)
 
-line-bytes : (bs text : List ℕ) (at : ℕ) → at + 3 * length bs ≤ length text → line (written text at (hexes bs)) ≡ take at text ++ spelled bs
-line-bytes [] text at h = sym (append-nil (take at text))
-line-bytes (b ∷ bs) text at h =
-    let part : List ℕ = 32 ∷ pair b in
-    let fits : at + 3 ≤ length text = omega arith in
-    let next = paste text at part 3 in
-    let long : length next ≡ length text = length-paste text at part 3 fits (omega arith) in
-    ap (λ (w : Ran ℕ). line (written (w .bytes) (w .answer) (hexes bs))) (fitting text part at fits)
-    ∙ line-bytes bs next (at + 3) (omega arith)
-    ∙ ap (λ (l : List ℕ). l ++ spelled bs) (take-paste text at part 3 (omega arith) (omega arith))
-    ∙ append-assoc (take at text) part (spelled bs)
+spelled-length : (bs : List ℕ) → length (spelled bs) ≡ 3 * length bs
+spelled-length [] = refl
+spelled-length (b ∷ bs) = omega (arith, spelled-length bs)
 
 -- what a byte's own pair spells, and that its first digit is no blank: by one computed test
 abbrev high : ℕ → ℕ
@@ -87,7 +67,7 @@ pub bytes-back : BytesBack
 bytes-back text bs buffer at small room space =
     let l : length (take at text) ≡ at = length-take-le at text (omega arith) in
     let none : 0 + length bs ≡ length bs = omega arith in
-    ap (λ (xs : List ℕ). readBytes xs at buffer) (line-bytes bs text at (omega arith))
+    ap (λ (xs : List ℕ). readBytes xs at buffer) (joined text at (hexes bs) (omega (arith, spelled-length bs)) .0)
     ∙ ap (λ (xs : List ℕ). readOn xs at buffer 0) (drop-at (take at text) (spelled bs) at l)
     ∙ read-spelled bs at buffer 0 small (omega arith)
     ∙ rw (sets-eq bs buffer 0 (omega arith), none)

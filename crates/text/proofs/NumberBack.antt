@@ -6,22 +6,21 @@ use native.Mathlib.Numerals.{one-add}
 use native.Mathlib.Omega.{arith}
 use mathlib.Core.Path.{_≡_, refl, sym, ap, ap₂, _∙_, subst}
 use mathlib.Core.Bool.{Bool, true, false}
-use mathlib.Core.List.{List, [], _∷_, _++_, append-assoc}
+use mathlib.Core.List.{List, [], _∷_, _++_, append-nil, append-assoc}
 use lib.Dec.{ltb, leb, eqb, eqb→eq}
 use lib.ListN.{length, take, drop, length-append}
-use lib.Seq.{paste, take-all, take-paste, length-paste, length-take-le, drop-at}
+use lib.Seq.{take-all, length-take-le, drop-at}
 use borrow.Author.Tests.{le-leb, eqb-true, ltb-true, ltb-false}
-use Rattle.model.specs.Words.{pick}
-use Rattle.model.specs.Contract.{Ran}
+use Rattle.model.specs.Words.{pick, concat}
 use Rattle.model.proofs.Words.{each}
 use Rattle.text.specs.declared.Number.the-variants.{Is}
 use Rattle.text.specs.Lines.{blank, blanks, wordLength, skipped, wordEnd, between}
 use Rattle.text.specs.Hex.{digit}
 use Rattle.text.specs.Decimal.{decimals, decimal, areDecimal, valueOn, valueOf, readNumber}
-use Rattle.text.specs.Writing.{placed, written, number}
+use Rattle.text.specs.Writing.{written, number}
 use Rattle.text.specs.Claims.{line, NumberBack}
 use Rattle.text.proofs.Decimal.{front-digit, number-is, number-at}
-use Rattle.text.proofs.BytesBack.{fitting, line-fitting}
+use Rattle.text.proofs.Joined.{joined}
 
 -- the ten digits, by one computed test
 digit-of : (m : ℕ) → m < 10 → digit (48 + m) ≡ m
@@ -133,18 +132,10 @@ number-back text at n small room =
     let are = decimals-decimal 20 n in
     let value : valueOf digits ≡ n = decimals-value 20 n (omega arith) in
     let l : length (take at text) ≡ at = length-take-le at text (omega arith) in
-    let blank : List ℕ = 32 ∷ [] in
-    let next = paste text at blank 1 in
-    let long : length next ≡ length text = length-paste text at blank 1 (omega arith) (omega arith) in
-    let first = fitting text blank at (omega arith) in
-    let written-is : written text at (number n) ≡ placed next (at + 1) digits = ap (λ (w : Ran ℕ). placed (w .bytes) (w .answer) digits) first in
-    let end : written text at (number n) .answer ≡ at + 1 + length digits =
-    ap (λ (w : Ran ℕ). w .answer) (written-is ∙ fitting next digits (at + 1) (omega arith)) in
-    let text-is : line (written text at (number n)) ≡ take at text ++ (32 ∷ digits) =
-    ap line written-is
-    ∙ line-fitting next digits (at + 1) (omega arith)
-    ∙ ap (λ (xs : List ℕ). xs ++ digits) (take-paste text at blank 1 (omega arith) (omega arith))
-    ∙ append-assoc (take at text) blank digits in
+    let parts : concat (number n) ≡ 32 ∷ digits = ap (λ (xs : List ℕ). 32 ∷ xs) (append-nil digits) in
+    let is = joined text at (number n) (omega (arith, ap length parts)) in
+    let end : written text at (number n) .answer ≡ at + 1 + length digits = omega (arith, is .1, ap length parts) in
+    let text-is : line (written text at (number n)) ≡ take at text ++ (32 ∷ digits) = is .0 ∙ ap (λ (xs : List ℕ). take at text ++ xs) parts in
     ap (λ (xs : List ℕ). readNumber xs at) text-is
     ∙ found (take at text) digits at l are (some-by 19 n (ltb n 10)) (decimals-length 20 8 n (omega arith))
     ∙ ap₂ (λ (v p : ℕ). Is v p) value (sym end)

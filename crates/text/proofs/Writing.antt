@@ -2,7 +2,7 @@
 -- Assumes nothing.
 use Prim.Native.Nat.{ℕ, suc, _+_, _/_, _%_, _≤_, _<_}
 use native.Mathlib.Numerals.{add-one}
-use mathlib.Core.Path.{_≡_, refl, ap₂, subst, _∙_}
+use mathlib.Core.Path.{_≡_, refl, ap₂, subst, subst⁻¹, _∙_}
 use mathlib.Core.List.{List, [], _∷_, _++_}
 use lib.ListN.{length, drop, getD, drop-of-length-le}
 use lib.Seq.{drop-cons}
@@ -12,15 +12,15 @@ use Rattle.model.specs.Contract.{Is}
 use Rattle.buffers.proofs.Pasting.{fits}
 use Rattle.text.specs.Hex.{glyph}
 use Rattle.text.specs.Decimal.{decimal}
-use Rattle.text.specs.Writing.{written, Writes, hex, hexes, number}
+use Rattle.text.specs.Writing.{written, Puts, hex, hexes, number}
 
 module _ (text part : List ℕ) (at : ℕ) where
   pub puts : (r : ℕ) (exit : List ℕ) → at + length part ≤ length text → r ≡ at + length part → exit ≡ pasted text part at
-      → Writes text at (part ∷ []) r exit
+      → Puts text at (part ∷ []) r exit
   puts r exit h e x =
       record { is = simp (le-leb (at + length part) (length text) h) (record { answer = e; bytes = x ∙ fits text part at h }) }
 
-  pub puts-nothing : length text < at + length part → Writes text at (part ∷ []) at text
+  pub puts-nothing : length text < at + length part → Puts text at (part ∷ []) at text
   puts-nothing h = record { is = simp (lt-leb (at + length part) (length text) h) (record { answer = refl; bytes = refl }) }
 
 -- parts, then more parts
@@ -33,19 +33,26 @@ joined (part ∷ parts) more text at first rest =
     let one = written text at (part ∷ []) in joined parts more (one .bytes) (one .answer) first rest
 
 infixr 40 _then_
-pub _then_ : {parts more : List (List ℕ)} {text between exit : List ℕ} {at next r : ℕ} → Writes text at parts next between
-    → Writes between next more r exit → Writes text at (parts ++ more) r exit
+pub _then_ : {parts more : List (List ℕ)} {text between exit : List ℕ} {at next r : ℕ} → Puts text at parts next between
+    → Puts between next more r exit → Puts text at (parts ++ more) r exit
 _then_ {parts} {more} {text} {at = at} first rest = record { is = joined parts more text at (first .is) (rest .is) }
+
+-- no parts, and parts of a value that is known to be another
+pub puts-none : {text : List ℕ} {at : ℕ} → Puts text at [] at text
+puts-none = record { is = record { answer = refl; bytes = refl } }
+
+pub by : {A : Type 0} (f : A → List (List ℕ)) {x y : A} {text exit : List ℕ} {at r : ℕ} → x ≡ y → Puts text at (f y) r exit → Puts text at (f x) r exit
+by f {text = text} {exit} {at} {r} e puts = subst⁻¹ (λ z. Puts text at (f z) r exit) e puts
 
 -- a pair by its digits
 pub puts-pair : (byte : ℕ) {text exit : List ℕ} {at high low r : ℕ} → high ≡ glyph (byte / 16) → low ≡ glyph (byte % 16)
-    → Writes text at ((32 ∷ high ∷ low ∷ []) ∷ []) r exit → Writes text at (hex byte ∷ []) r exit
+    → Puts text at ((32 ∷ high ∷ low ∷ []) ∷ []) r exit → Puts text at (hex byte ∷ []) r exit
 puts-pair byte {text} {exit} {at} {high} {low} {r} h l is =
-    subst (λ (x : ℕ). Writes text at ((32 ∷ x ∷ glyph (byte % 16) ∷ []) ∷ []) r exit) h
-    (subst (λ (x : ℕ). Writes text at ((32 ∷ high ∷ x ∷ []) ∷ []) r exit) l is)
+    subst (λ (x : ℕ). Puts text at ((32 ∷ x ∷ glyph (byte % 16) ∷ []) ∷ []) r exit) h
+    (subst (λ (x : ℕ). Puts text at ((32 ∷ high ∷ x ∷ []) ∷ []) r exit) l is)
 
 -- one byte more
-pub puts-on : (bytes : List ℕ) (i : ℕ) {text exit : List ℕ} {at r : ℕ} → i < length bytes → Writes text at (hex (getD bytes i 0) ∷ []) r exit
+pub puts-on : (bytes : List ℕ) (i : ℕ) {text exit : List ℕ} {at r : ℕ} → i < length bytes → Puts text at (hex (getD bytes i 0) ∷ []) r exit
     → written exit r (hexes (drop (i + 1) bytes)) ≡ written text at (hexes (drop i bytes))
 puts-on bytes i h writes =
     rw (add-one i, drop-cons bytes i 0 h)
@@ -55,7 +62,7 @@ pub puts-done : (text bytes : List ℕ) (at i : ℕ) → length bytes ≤ i → 
 puts-done text bytes at i h = rw (drop-of-length-le bytes {i = i} h) (record { answer = refl; bytes = refl })
 
 -- a blank, then digits
-pub puts-number : (n : ℕ) {text between exit digits : List ℕ} {at next r : ℕ} → Writes text at ((32 ∷ []) ∷ []) next between → digits ≡ decimal n
-    → Writes between next (digits ∷ []) r exit → Writes text at (number n) r exit
+pub puts-number : (n : ℕ) {text between exit digits : List ℕ} {at next r : ℕ} → Puts text at ((32 ∷ []) ∷ []) next between → digits ≡ decimal n
+    → Puts between next (digits ∷ []) r exit → Puts text at (number n) r exit
 puts-number n {between = between} {exit} {next = next} {r} blank is rest =
-    blank then subst (λ (l : List ℕ). Writes between next (l ∷ []) r exit) is rest
+    blank then subst (λ (l : List ℕ). Puts between next (l ∷ []) r exit) is rest

@@ -1,10 +1,10 @@
--- What is promised of text: what is written is read back.
+-- What is promised of text: parts stand one behind the other, and what is written is read back.
 -- Assumes nothing.
 use Prim.Native.Nat.{ℕ, _+_, _*_, _^_, _≤_, _<_}
 use mathlib.Core.Path.{_≡_}
 use mathlib.Core.List.{List, _++_}
 use lib.ListN.{length, drop}
-use Rattle.model.specs.Words.{Bytes}
+use Rattle.model.specs.Words.{Bytes, concat}
 use Rattle.model.specs.Contract.{Ran}
 use Rattle.text.specs.declared.Bytes.the-variants.{Are}
 use Rattle.text.specs.declared.Number.the-variants.{Is}
@@ -16,6 +16,12 @@ use Rattle.text.specs.Writing.{written, hexes, number}
 -- a text up to the place behind what was written
 abbrev pub line : Ran ℕ → List ℕ
 line w = fore (w .bytes) (w .answer)
+
+-- parts for which a text has room stand in it one behind the other, behind what it had before the place, and the answer is the place behind them
+abbrev pub Joined : Type 0
+Joined =
+    (text : List ℕ) (at : ℕ) (parts : List (List ℕ)) → at + length (concat parts) ≤ length text
+    → (line (written text at parts) ≡ fore text at ++ concat parts) × (written text at parts .answer ≡ at + length (concat parts))
 
 -- bytes written into a text that has room for them, and read from there on into a buffer that has room for them, are in front of it, and what comes
 -- behind them in the buffer is as it was

@@ -25,7 +25,7 @@ written text at [] = record { answer = at; bytes = text }
 written text at (part ∷ parts) = let one = placed text at part in written (one .bytes) (one .answer) parts
 
 -- writing the parts may answer r and leave exit
-pub record Writes (text : List ℕ) (at : ℕ) (parts : List (List ℕ)) (r : ℕ) (exit : List ℕ) : Type 0 where
+pub record Puts (text : List ℕ) (at : ℕ) (parts : List (List ℕ)) (r : ℕ) (exit : List ℕ) : Type 0 where
   pub is : Is (written text at parts) r exit
 
 -- ---- parts

@@ -10,7 +10,7 @@ ghost use Rattle.text.specs.Hex.{byteOf, readBytes};
 ghost use Rattle.text.specs.Hex.{glyph as Hex·glyph};
 ghost use Rattle.text.specs.Hex.{digit as Hex·digit};
 ghost use Rattle.text.specs.Decimal.{areDecimal, valueOf, numberOf, readNumber};
-ghost use Rattle.text.specs.Writing.{Writes, hex, hexes, number};
+ghost use Rattle.text.specs.Writing.{Puts, hex, hexes, number};
 
 // The first n bytes, or all where there are fewer.
 pub fn front(bytes: &[u8], n: usize) -> &[u8]
@@ -104,7 +104,7 @@ pub fn is_word(line: &[u8], from: usize, end: usize, word: &[u8]) -> bool
 
 // Puts a part at a place of a text, where it fits, and answers the place behind it.
 pub fn put(text: &mut [u8], at: usize, part: &[u8]) -> usize
-    ensures { λ r. ⌜ Writes (now (text .entry)) at (now (part .entry) ∷ []) r (now (text .exit)) ⌝ }
+    ensures { λ r. ⌜ Puts (now (text .entry)) at (now (part .entry) ∷ []) r (now (text .exit)) ⌝ }
 {
     if text.len() < at {
         return at;
@@ -129,7 +129,7 @@ fn glyph(digit: u8) -> u8
 
 // Puts a blank and a byte as two digits.
 pub fn put_byte(text: &mut [u8], at: usize, byte: u8) -> usize
-    ensures { λ r. ⌜ Writes (now (text .entry)) at (hex byte ∷ []) r (now (text .exit)) ⌝ }
+    ensures { λ r. ⌜ Puts (now (text .entry)) at (hex byte ∷ []) r (now (text .exit)) ⌝ }
 {
     let pair = [b' ', glyph(byte / 16), glyph(byte % 16)];
     put(text, at, &pair)
@@ -137,7 +137,7 @@ pub fn put_byte(text: &mut [u8], at: usize, byte: u8) -> usize
 
 // Puts bytes one behind the other, as far as there is room.
 pub fn put_bytes(text: &mut [u8], at: usize, bytes: &[u8]) -> usize
-    ensures { λ r. ⌜ Writes (now (text .entry)) at (hexes (now (bytes .entry))) r (now (text .exit)) ⌝ }
+    ensures { λ r. ⌜ Puts (now (text .entry)) at (hexes (now (bytes .entry))) r (now (text .exit)) ⌝ }
 {
     let mut next = at;
     let mut i = 0;
@@ -150,7 +150,7 @@ pub fn put_bytes(text: &mut [u8], at: usize, bytes: &[u8]) -> usize
 
 // Puts a blank and a decimal number.
 pub fn put_number(text: &mut [u8], at: usize, n: u64) -> usize
-    ensures { λ r. ⌜ Writes (now (text .entry)) at (number n) r (now (text .exit)) ⌝ }
+    ensures { λ r. ⌜ Puts (now (text .entry)) at (number n) r (now (text .exit)) ⌝ }
 {
     let mut digits = [0u8; 20];
     let count = io::decimal(n, &mut digits);
