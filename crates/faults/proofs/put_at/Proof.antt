@@ -1,0 +1,23 @@
+-- `faults::put_at` meets its contract.
+-- Assumes nothing.
+use borrow.Author.Needs.{needs}
+use Rattle.text.proofs.Writing.{_then_}
+use Rattle.faults.proofs.put_at.Statement.{statement}
+use Rattle.faults.proofs.put_at.Tie as tie
+
+returns : tie.Need-returns
+returns c =
+    let last = c .before .before in
+    let column = last .before .before .before .before in
+    column .before .before .before .before .put .ensures then column .put-column .ensures then last .put2 .ensures
+
+pub put-at-spec : {M : Type 1} → statement M
+put-at-spec =
+    tie.close
+    (tie.spec
+    (λ c. search needs)
+    (λ c κs. search needs)
+    (λ c κs. search needs)
+    (λ c κs. search needs)
+    (λ c. search needs)
+    returns)
