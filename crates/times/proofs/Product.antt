@@ -25,7 +25,7 @@ parts f (fin false p e) (fin true q g) n c m d h k = absurd (true≢false (k .0)
 parts f (fin false p e) (fin false q g) n c m d h k = refl
 
 -- by any fractions n / c and m / d that the two equal
-product : (f : Format) (x y : Float) (n c m d : ℕ) → 0 < c → 0 < d → HasValue x false n c → HasValue y false m d → mul f x y ≡ round f false (n * m) (c * d)
+pub product : (f : Format) (x y : Float) (n c m d : ℕ) → 0 < c → 0 < d → HasValue x false n c → HasValue y false m d → mul f x y ≡ round f false (n * m) (c * d)
 product f x y n c m d C D h k =
     parts f x y n c m d h k
     ∙ round-same f false (num x * num y) (den x * den y) (n * m) (c * d) (mul-pos (den-pos x) (den-pos y)) (mul-pos C D)

@@ -1,0 +1,4 @@
+pub mod Digits
+pub mod Ticks
+pub mod Timing
+pub mod Exactness

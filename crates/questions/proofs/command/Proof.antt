@@ -1,0 +1,51 @@
+-- `questions::command` meets its contract.
+-- Assumes nothing.
+use borrow.Author.Needs.{needs}
+use Prim.Native.Nat.{ℕ}
+use mathlib.Core.Path.{sym, _∙_}
+use mathlib.Core.List.{List, [], _∷_}
+use denote.Ref.{now}
+use Rattle.text.specs.Writing.{hexes}
+use Rattle.text.proofs.Writing.{_then_, by}
+use Rattle.questions.specs.Questions.{readingText}
+use Rattle.questions.proofs.command.Statement.{statement}
+use Rattle.questions.proofs.command.Tie as tie
+
+-- the bytes that were given
+abbrev bytes : tie.After-read-command → List ℕ
+bytes c = now (c .before .before .before .args .given)
+
+returns : tie.Need-returns
+returns c =
+    let last = c .before .before in
+    let part = last .before in
+    let put = part .before .before .before .before in
+    let name = put .before in
+    let taken = name .before .before .before in
+    let read = taken .before .before in
+    by (readingText (bytes read)) (sym (read .read-command .ensures) ∙ taken .frame .given .1)
+    (by (λ (l : List ℕ). l ∷ []) (sym (name .name-of .ensures)) (put .put-name .ensures) then by hexes (sym (part .after .ensures)) (last .put-bytes .ensures))
+
+returns-2 : tie.Need-returns-2
+returns-2 c =
+    let put = c .before .before in
+    let refused = put .before .before .before in
+    let read = refused .before .before in
+    by (readingText (bytes read)) (sym (read .read-command .ensures) ∙ refused .refusal .given .1) (put .put-refusal .ensures)
+
+pub command-spec : {M : Type 1} → statement M
+command-spec =
+    tie.close
+    (tie.spec
+    (λ c κs. search needs)
+    (λ c. search needs)
+    (λ c κs. search needs)
+    (λ c κs. search needs)
+    (λ c κs. search needs)
+    (λ c κs. search needs)
+    (λ c. search needs)
+    (λ c κs. search needs)
+    (λ c. search needs)
+    returns
+    (λ c. search needs)
+    returns-2)

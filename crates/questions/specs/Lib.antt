@@ -1,0 +1,3 @@
+pub mod Milliseconds
+pub mod Questions
+pub mod Claims

@@ -1,0 +1,94 @@
+-- Questions that need no session, and their answers as text.
+-- Assumes nothing.
+use Prim.Native.Nat.{ℕ}
+use mathlib.Core.Bool.{Bool, true, false}
+use mathlib.Core.List.{List, [], _∷_, _++_}
+use Rattle.model.specs.declared.Settings.{Settings}
+use Rattle.model.specs.declared.Ticks.{Ticks}
+use Rattle.model.specs.declared.Refusal.the-variants.{Invalid}
+use Rattle.model.specs.declared.Guard.{Guard}
+use Rattle.model.specs.declared.Guard.the-variants.{Band}
+use Rattle.model.specs.declared.Guard.the-variants.{Refused as NoGuard}
+use Rattle.model.specs.declared.Frame.{Frame}
+use Rattle.model.specs.declared.Frame.the-variants.{Idn, ProtocolSelect, SendRecv, Idle, Echo}
+use Rattle.model.specs.declared.Reading.{Reading}
+use Rattle.model.specs.declared.Reading.the-variants.{Taken}
+use Rattle.model.specs.declared.Reading.the-variants.{Refused as NoFrame}
+use Rattle.model.specs.declared.Flags.{Flags}
+use Rattle.model.specs.Words.{pick, bit}
+use Rattle.model.specs.Frames.{settings, settingsAllowed, readCommand, flags, received}
+use Rattle.model.specs.Times.{ticks, tTO}
+use Rattle.model.specs.Calibration.{band}
+use Rattle.text.specs.Lines.{rest, byteAt}
+use Rattle.text.specs.Writing.{word, hex, hexes, number}
+use Rattle.calls.specs.declared.Question.{Question}
+use Rattle.calls.specs.declared.Question.the-variants.{Times, Wait, Command, Received}
+use Rattle.calls.specs.declared.Question.the-variants.{Band as BandOf}
+use Rattle.calls.specs.declared.Question.the-variants.{Flags as FlagsOf}
+use Rattle.answers.specs.Answers.{refusalText}
+use Rattle.questions.specs.Milliseconds.{millisecondsText, allMilliseconds}
+
+-- ---- waiting times
+
+-- in the order of the paper
+abbrev pub inOrder : Ticks → List ℕ
+inOrder t = t .low ∷ t .reference ∷ t .inactive ∷ t .timeout ∷ t .osc ∷ t .dac ∷ []
+
+-- the six times in ticks
+abbrev pub six : Settings → List ℕ
+six s = inOrder (ticks s)
+
+abbrev pub numbers : List ℕ → List (List ℕ)
+numbers [] = []
+numbers (n ∷ ns) = number n ++ numbers ns
+
+-- in ticks, then in milliseconds
+abbrev pub timesText : Settings → List (List ℕ)
+timesText s =
+    pick (settingsAllowed s) (word "ticks" ∷ (numbers (six s) ++ (word " ms" ∷ allMilliseconds (six s)))) (refusalText Invalid)
+
+-- without end where bit 0 is clear
+abbrev pub waitText : Settings → List (List ℕ)
+waitText s =
+    pick (settingsAllowed s)
+    (pick (bit 0 (s .source)) (word "after" ∷ (millisecondsText (tTO s) ++ (word " ms" ∷ []))) (word "endless" ∷ []))
+    (refusalText Invalid)
+
+-- ---- the guard band
+
+abbrev pub guardText : Guard → List (List ℕ)
+guardText (Band low high) = word "band" ∷ hex low ∷ hex high ∷ []
+guardText (NoGuard refusal) = refusalText refusal
+
+-- ---- the call that sends a frame
+
+abbrev pub frameName : Frame → List ℕ
+frameName Idn = word "idn"
+frameName (ProtocolSelect protocol parameters) = word "select"
+frameName (SendRecv part) = word "send"
+frameName (Idle settings) = word "idle"
+frameName Echo = word "echo"
+
+-- what the call is given stands behind code and length
+abbrev pub readingText : List ℕ → Reading → List (List ℕ)
+readingText part (Taken frame) = frameName frame ∷ hexes (rest part 2)
+readingText part (NoFrame refusal) = refusalText refusal
+
+-- ---- what SPI brings back
+
+abbrev pub told : Bool → List ℕ
+told true = word " yes"
+told false = word " no"
+
+abbrev pub flagsText : Flags → List (List ℕ)
+flagsText f = word "read" ∷ told (f .read) ∷ word " send" ∷ told (f .send) ∷ []
+
+-- ---- the answers, over the bytes that were given
+
+abbrev pub questionText : Question → List ℕ → List (List ℕ)
+questionText Times given = timesText (settings given)
+questionText Wait given = waitText (settings given)
+questionText BandOf given = guardText (band (byteAt given 0))
+questionText Command given = readingText given (readCommand given)
+questionText FlagsOf given = flagsText (flags (byteAt given 0))
+questionText Received given = word "bytes" ∷ hexes (received given)
