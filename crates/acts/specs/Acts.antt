@@ -1,0 +1,58 @@
+-- The call of the session that a line makes, on as much of a buffer as is lent.
+-- Assumes nothing.
+use Prim.Native.Nat.{ℕ, _%_}
+use mathlib.Core.List.{List, _++_}
+use lib.Dec.{eqb}
+use Rattle.model.specs.declared.Interface.{Interface}
+use Rattle.model.specs.declared.Interface.the-variants.{Spi, Uart}
+use Rattle.model.specs.declared.Plan.{Plan}
+use Rattle.model.specs.declared.Session.{Session}
+use Rattle.model.specs.declared.Outcome.{Outcome}
+use Rattle.model.specs.Words.{pick}
+use Rattle.model.specs.Contract.{Ran}
+use Rattle.model.specs.Frames.{idn, protocolSelect, sendRecv, idle, echo, settings}
+use Rattle.model.specs.Session.{power-on, pulse, request, reset, poll, read, calibrate, next, step}
+use Rattle.text.specs.Lines.{fore, rest, byteAt}
+use Rattle.calls.specs.declared.Act.{Act}
+use Rattle.calls.specs.declared.Act.the-variants.{PowerOn, Pulse, Idn, Select, Exchange, Idle, Echo, Reset, Poll, Read, Calibrate, Next}
+
+-- spi is 0
+abbrev pub interfaceOf : ℕ → Interface
+interfaceOf number = pick (eqb number 0) Spi Uart
+
+-- the settings of a calibration: the prescaler, then pairs and times in wire order
+abbrev pub planOf : ℕ → List ℕ → Plan
+planOf prescaler given =
+    record {
+      prescaler = prescaler % 256;
+      enter = record { first = byteAt given 0; second = byteAt given 1 };
+      wake = record { first = byteAt given 2; second = byteAt given 3 };
+      leave = record { first = byteAt given 4; second = byteAt given 5 };
+      period = byteAt given 6;
+      osc = byteAt given 7;
+      dac = byteAt given 8;
+      swing = byteAt given 9;
+    }
+
+-- a call that is lent nothing leaves the output as it was
+abbrev pub keeping : List ℕ → Ran Outcome → Ran Outcome
+keeping out ran = record { answer = ran .answer; bytes = out }
+
+-- what an act does, by the number and the bytes that its line gives, on the output
+abbrev pub acted : Session → Act → ℕ → List ℕ → List ℕ → Ran Outcome
+acted s PowerOn number given out = keeping out (step s (power-on (interfaceOf number)))
+acted s Pulse number given out = keeping out (step s pulse)
+acted s Idn number given out = step s (request idn out)
+acted s Select number given out = step s (request (protocolSelect (byteAt given 0) (rest given 1)) out)
+acted s Exchange number given out = step s (request (sendRecv given) out)
+acted s Idle number given out = step s (request (idle (settings given)) out)
+acted s Echo number given out = step s (request echo out)
+acted s Reset number given out = step s (reset out)
+acted s Poll number given out = step s (poll out)
+acted s Read number given out = step s (read number out)
+acted s Calibrate number given out = step s (calibrate (planOf number given) out)
+acted s Next number given out = step s (next out)
+
+-- on the first n bytes of a buffer, and the rest is as it was
+abbrev pub onFront : ℕ → List ℕ → (List ℕ → Ran Outcome) → Ran Outcome
+onFront n buffer run = let ran = run (fore buffer n) in record { answer = ran .answer; bytes = ran .bytes ++ rest buffer n }

@@ -1,0 +1,95 @@
+// The call of the session that a line makes, on as much of a buffer as is lent.
+ghost use mathlib.Core.Path.{_≡_};
+ghost use Rattle.model.specs.Contract.{Is};
+ghost use Rattle.model.specs.Session.{feed, step};
+ghost use Rattle.acts.specs.Acts.{interfaceOf, planOf, acted, onFront};
+use calls::Act;
+use model::Interface;
+use model::Outcome;
+use model::Pair;
+use model::Plan;
+use model::Session;
+use session::calibrating;
+use session::pieces;
+use session::requests;
+
+// The settings of a calibration: the prescaler, then pairs and times in wire order.
+fn plan(prescaler: usize, given: &[u8]) -> Plan
+    ensures { λ r. ⌜ r ≡ planOf prescaler (now (given .entry)) ⌝ }
+{
+    Plan {
+        prescaler: (prescaler % 256) as u8,
+        enter: Pair {
+            first: text::at(given, 0),
+            second: text::at(given, 1),
+        },
+        wake: Pair {
+            first: text::at(given, 2),
+            second: text::at(given, 3),
+        },
+        leave: Pair {
+            first: text::at(given, 4),
+            second: text::at(given, 5),
+        },
+        period: text::at(given, 6),
+        osc: text::at(given, 7),
+        dac: text::at(given, 8),
+        swing: text::at(given, 9),
+    }
+}
+
+// spi is 0.
+fn interface(number: usize) -> Interface
+    ensures { λ r. ⌜ r ≡ interfaceOf number ⌝ }
+{
+    if number == 0 {
+        return Interface::Spi;
+    }
+    Interface::Uart
+}
+
+fn act(what: Act, s: Session, number: usize, given: &[u8], out: &mut [u8]) -> Outcome
+    ensures { λ r. ⌜ Is (acted s what number (now (given .entry)) (now (out .entry))) r (now (out .exit)) ⌝ }
+{
+    match what {
+        Act::PowerOn => session::power_on(s, interface(number)),
+        Act::Pulse => session::pulse(s),
+        Act::Idn => requests::idn(s, out),
+        Act::Select => requests::protocol_select(s, text::at(given, 0), text::after(given, 1), out),
+        Act::Exchange => requests::send_recv(s, given, out),
+        Act::Idle => requests::idle(s, settings::of_data(given), out),
+        Act::Echo => requests::echo(s, out),
+        Act::Reset => requests::reset(s, out),
+        Act::Poll => requests::poll(s, out),
+        Act::Read => requests::read(s, number, out),
+        Act::Calibrate => calibrating::calibrate(s, plan(number, given), out),
+        Act::Next => calibrating::calibrate_next(s, out),
+    }
+}
+
+// An act on the first n bytes of the output.
+pub fn act_on(
+    what: Act,
+    s: Session,
+    number: usize,
+    given: &[u8],
+    out: &mut [u8],
+    n: usize,
+) -> Outcome
+    ensures { λ r. ⌜ Is (onFront n (now (out .entry)) (λ front. acted s what number (now (given .entry)) front)) r (now (out .exit)) ⌝ }
+{
+    if n <= out.len() {
+        return act(what, s, number, given, &mut out[0..n]);
+    }
+    act(what, s, number, given, out)
+}
+
+// A piece of the awaited reply, with the first n bytes of the reply room.
+pub fn feed_on(s: Session, piece: &[u8], room: &mut [u8], n: usize) -> Outcome
+    ensures { λ r. ⌜ Is (onFront n (now (room .entry)) (λ front. step s (feed (now (piece .entry)) front))) r (now (room .exit)) ⌝ }
+{
+    if n <= room.len() {
+        return pieces::feed(s, piece, &mut room[0..n]);
+    }
+    pieces::feed(s, piece, room)
+}
