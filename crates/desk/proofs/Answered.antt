@@ -1,0 +1,141 @@
+-- A line that is no call changes nothing; and a line with a word is answered.
+-- Assumes nothing.
+use Prim.Native.Nat.{ℕ, _+_, _≤_, _<_}
+use native.Mathlib.Omega.{arith}
+use mathlib.Core.Path.{_≡_, refl}
+use mathlib.Core.Bool.{Bool, true, false, _&&_}
+use mathlib.Core.List.{List, [], _∷_, _++_}
+use lib.Dec.{T, leb, eqb, leb→le}
+use lib.Ieee.Fits.{and-l, and-r}
+use lib.ListN.{length}
+use lib.Seq.{paste}
+use borrow.Author.Tests.{le-leb, lt-leb, ne-eqb}
+use Rattle.model.specs.declared.Refusal.{Refusal}
+use Rattle.model.specs.declared.Answer.{Answer}
+use Rattle.model.specs.declared.Answer.the-variants.{Done, Sent, More, Good, Reference, Refused}
+use Rattle.model.specs.declared.Guard.{Guard}
+use Rattle.model.specs.declared.Guard.the-variants.{Band}
+use Rattle.model.specs.declared.Guard.the-variants.{Refused as NoGuard}
+use Rattle.model.specs.declared.Frame.the-variants.{Idn, ProtocolSelect, SendRecv, Idle, Echo}
+use Rattle.model.specs.declared.Reading.{Reading}
+use Rattle.model.specs.declared.Reading.the-variants.{Taken}
+use Rattle.model.specs.declared.Reading.the-variants.{Refused as NoFrame}
+use Rattle.model.specs.Words.{pick, bit}
+use Rattle.model.specs.Contract.{Ran}
+use Rattle.model.specs.Frames.{settings, settingsAllowed, readCommand}
+use Rattle.model.specs.Calibration.{band}
+use Rattle.model.proofs.Words.{ways}
+use Rattle.text.specs.Lines.{fore, byteAt, skipped}
+use Rattle.text.specs.Writing.{written, word}
+use Rattle.calls.specs.declared.Question.{Question}
+use Rattle.calls.specs.declared.Question.the-variants.{Times, Wait, Command, Received}
+use Rattle.calls.specs.declared.Question.the-variants.{Band as BandOf}
+use Rattle.calls.specs.declared.Question.the-variants.{Flags as FlagsOf}
+use Rattle.calls.specs.declared.Call.{Call}
+use Rattle.calls.specs.declared.Call.the-variants.{Acts, Feeds, Tells, Sets, Helps}
+use Rattle.calls.specs.declared.Fault.{Fault}
+use Rattle.calls.specs.declared.Fault.the-variants.{Unknown, Longer, NoPair, NoNumber, NoInterface, Count, NoProtocol, Above}
+use Rattle.calls.specs.declared.Asked.{Asked}
+use Rattle.calls.specs.declared.Asked.the-variants.{Understood, Wrong}
+use Rattle.calls.specs.Asking.{asked}
+use Rattle.faults.specs.Faults.{faultText}
+use Rattle.answers.specs.Answers.{answerText, usedText, stateText}
+use Rattle.questions.specs.Questions.{guardText, readingText, questionText}
+use Rattle.desk.specs.declared.Post.{Post}
+use Rattle.desk.specs.Desk.{Left, acting, feeding, obeyed, heard, blankBytes}
+use Rattle.desk.specs.Claims.{Unmoved, Answered}
+
+pub unmoved : Unmoved
+unmoved line post page out room text fault some call wrong =
+    simp (lt-leb (length line) (skipped line 0) some, ne-eqb (byteAt line 0) 35 call, wrong)
+
+-- ---- what is told begins with a short word
+
+abbrev short : List (List ℕ) → Bool
+short [] = false
+short (part ∷ parts) = leb 1 (length part) && leb (length part) 80
+
+answer-short : (answer : Answer) (out : List ℕ) (more : List (List ℕ)) → T (short (answerText answer out ++ more))
+answer-short Done out more = tt
+answer-short (Sent count) out more = tt
+answer-short More out more = tt
+answer-short Good out more = tt
+answer-short (Reference reference commands) out more = tt
+answer-short (Refused refusal) out more = tt
+
+guard-short : (guard : Guard) → T (short (guardText guard))
+guard-short (Band low high) = tt
+guard-short (NoGuard refusal) = tt
+
+reading-short : (part : List ℕ) (reading : Reading) → T (short (readingText part reading))
+reading-short part (Taken Idn) = tt
+reading-short part (Taken (ProtocolSelect protocol parameters)) = tt
+reading-short part (Taken (SendRecv bytes)) = tt
+reading-short part (Taken (Idle settings)) = tt
+reading-short part (Taken Echo) = tt
+reading-short part (NoFrame refusal) = tt
+
+question-short : (question : Question) (given : List ℕ) → T (short (questionText question given))
+question-short Times given = ways (λ (parts : List (List ℕ)). T (short parts)) (settingsAllowed (settings given)) (λ t. tt) (λ t. tt)
+question-short Wait given =
+    ways (λ (parts : List (List ℕ)). T (short parts)) (settingsAllowed (settings given))
+    (λ t. ways (λ (parts : List (List ℕ)). T (short parts)) (bit 0 (settings given .source)) (λ u. tt) (λ u. tt)) (λ t. tt)
+question-short BandOf given = guard-short (band (byteAt given 0))
+question-short Command given = reading-short given (readCommand given)
+question-short FlagsOf given = tt
+question-short Received given = tt
+
+fault-short : (fault : Fault) → T (short (faultText fault))
+fault-short Unknown = tt
+fault-short (Longer place) = tt
+fault-short (NoPair place) = tt
+fault-short (NoNumber place) = tt
+fault-short (NoInterface place) = tt
+fault-short (Count n wanted) = tt
+fault-short NoProtocol = tt
+fault-short (Above n greatest) = tt
+
+-- ---- and what begins with a word that fits is no empty text
+
+grows : (text : List ℕ) (at : ℕ) (parts : List (List ℕ)) → at ≤ written text at parts .answer
+grows text at [] = omega arith
+grows text at (part ∷ parts) =
+    ways (λ (one : Ran ℕ). at ≤ written (one .bytes) (one .answer) parts .answer) (leb (at + length part) (length text))
+    (λ t. omega (arith, grows (paste text at part (length part)) (at + length part) parts)) (λ t. grows text at parts)
+
+begun : (text part : List ℕ) (parts : List (List ℕ)) → 0 < length part → length part ≤ length text → 0 < written text 0 (part ∷ parts) .answer
+begun text part parts some fits = simp (le-leb (0 + length part) (length text) (omega arith)) (omega (arith, grows (paste text 0 part (length part)) (0 + length part) parts))
+
+begun-short : (text : List ℕ) (parts : List (List ℕ)) → T (short parts) → 80 ≤ length text → 0 < written text 0 parts .answer
+begun-short text [] t room = absurd t
+begun-short text (part ∷ parts) t room =
+    begun text part parts (leb→le 1 (length part) (and-l (leb 1 (length part)) (leb (length part) 80) t))
+    (omega (arith, leb→le (length part) 80 (and-r (leb 1 (length part)) (leb (length part) 80) t)))
+
+module _ (post : Post) (page out room text : List ℕ) (some : 0 < length page) (fits : length page ≤ length text) (long : 80 ≤ length text) where
+  abbrev Spoken : Left → Type 0
+  Spoken left = 0 < left .done .answer .n
+
+  answer-begun : (answer : Answer) (bytes : List ℕ) (more : List (List ℕ)) → 0 < written text 0 (answerText answer bytes ++ more) .answer
+  answer-begun answer bytes more = begun-short text (answerText answer bytes ++ more) (answer-short answer bytes more) long
+
+  by-obeyed : (call : Call) (number : ℕ) (given : List ℕ) → Spoken (obeyed call post number given page out room text)
+  by-obeyed (Acts act) number given =
+      let ran = acting post act number given out in answer-begun (ran .answer .answer) (ran .bytes) (stateText (ran .answer .session))
+  by-obeyed Feeds number given =
+      let ran = feeding post given room in
+      let o = ran .answer in answer-begun (o .answer) [] (usedText (o .used) (o .place) given (ran .bytes) ++ stateText (o .session))
+  by-obeyed (Tells question) number given = begun-short text (questionText question given) (question-short question given) long
+  by-obeyed (Sets buffer) number given = begun text (word "ok") (stateText (post .session)) (omega arith) (omega arith)
+  by-obeyed Helps number given = begun text page [] some fits
+
+  by-heard : (read : Asked) (bytes : List ℕ) → Spoken (heard read bytes post page out room text)
+  by-heard (Understood call number count) bytes = by-obeyed call number (fore bytes count)
+  by-heard (Wrong fault) bytes = begun-short text (faultText fault) (fault-short fault) long
+
+pub answered : Answered
+answered line post page out room text word whole some fits long =
+    let read = asked line blankBytes in
+    rw (lt-leb (length line) (skipped line 0) word)
+    (ways (Spoken post page out room text some fits long) (eqb (byteAt line 0) 35) (λ e. begun text line [] (omega arith) whole)
+    (λ e. by-heard post page out room text some fits long (read .answer) (read .bytes)))

@@ -1,0 +1,40 @@
+-- What is promised of a line of a script.
+-- Assumes nothing.
+use Prim.Native.Nat.{ℕ, _≤_, _<_}
+use mathlib.Core.Path.{_≡_}
+use mathlib.Core.Logic.{_⊎_}
+use mathlib.Core.List.{List}
+use lib.ListN.{length}
+use Rattle.model.specs.declared.Session.{Session}
+use Rattle.model.specs.Session.{Call, step}
+use Rattle.text.specs.Lines.{byteAt, skipped}
+use Rattle.calls.specs.declared.Fault.{Fault}
+use Rattle.calls.specs.declared.Asked.the-variants.{Wrong}
+use Rattle.calls.specs.Asking.{asked}
+use Rattle.faults.specs.Faults.{faultText}
+use Rattle.desk.specs.declared.Post.{Post}
+use Rattle.desk.specs.Desk.{told, blankBytes, answered}
+
+-- a call of the session leads from s to next
+pub record Made (s next : Session) : Type 0 where
+  pub call : Call
+  pub is : next ≡ step s call .answer .session
+
+-- the session after a line is the one before it, or what one call makes of it
+abbrev pub OneCall : Type 0
+OneCall =
+    (line : List ℕ) (post : Post) (page out room text : List ℕ)
+    → let next = answered line post page out room text .done .answer .post .session in (next ≡ post .session) ⊎ Made (post .session) next
+
+-- a line that is no call is told what is wrong with it, and changes nothing
+abbrev pub Unmoved : Type 0
+Unmoved =
+    (line : List ℕ) (post : Post) (page out room text : List ℕ) (fault : Fault) → skipped line 0 < length line → (byteAt line 0 ≡ 35 → ⊥)
+    → asked line blankBytes .answer ≡ Wrong fault
+    → answered line post page out room text ≡ record { done = told post (faultText fault) text; out = out; room = room }
+
+-- a line with a word is answered, where the text has room for 80 bytes, for the line and for the page
+abbrev pub Answered : Type 0
+Answered =
+    (line : List ℕ) (post : Post) (page out room text : List ℕ) → skipped line 0 < length line → length line ≤ length text → 0 < length page
+    → length page ≤ length text → 80 ≤ length text → 0 < answered line post page out room text .done .answer .n

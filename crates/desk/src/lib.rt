@@ -1,0 +1,184 @@
+// A line and what is kept from line to line, answered: the session and the lent buffers go in and come back.
+ghost use mathlib.Core.Path.{_≡_};
+ghost use mathlib.Core.List.{[], _∷_, _++_};
+ghost use Rattle.model.specs.Contract.{Is};
+ghost use Rattle.answers.specs.Answers.{answerText, stateText};
+ghost use Rattle.desk.specs.Desk.{withSession, lending, acting, actTold, feeding, feedTold, setTold, obeyed, hearing, answered, Leaves};
+ghost use Rattle.desk.specs.Desk.{told as Desk·told};
+use calls::Act;
+use calls::Asked;
+use calls::Buffer;
+use calls::Call;
+use calls::Question;
+use calls::reading;
+use model::Outcome;
+use model::Session;
+
+// The session, and how much of the output and of the reply room is lent.
+pub struct Post {
+    pub session: Session,
+    pub out: usize,
+    pub room: usize,
+}
+
+// The post after a line, and how long the answer is.
+pub struct Done {
+    pub post: Post,
+    pub n: usize,
+}
+
+fn with_session(post: Post, session: Session) -> Post
+    ensures { λ r. ⌜ r ≡ withSession post session ⌝ }
+{
+    Post {
+        session,
+        out: post.out,
+        room: post.room,
+    }
+}
+
+fn lend(post: Post, buffer: Buffer, n: usize) -> Post
+    ensures { λ r. ⌜ r ≡ lending post buffer n ⌝ }
+{
+    let session = post.session;
+    match buffer {
+        Buffer::Out => Post {
+            session,
+            out: n,
+            room: post.room,
+        },
+        Buffer::Room => Post {
+            session,
+            out: post.out,
+            room: n,
+        },
+    }
+}
+
+fn act(what: Act, post: Post, number: usize, given: &[u8], out: &mut [u8], text: &mut [u8]) -> Done
+    ensures { λ r. ⌜ Is (actTold post (acting post what number (now (given .entry)) (now (out .entry))) (now (text .entry))) r (now (text .exit)) × (now (out .exit) ≡ acting post what number (now (given .entry)) (now (out .entry)) .bytes) ⌝ }
+{
+    let s = post.session;
+    let lent = post.out;
+    let outcome = acts::act_on(what, s, number, given, out, lent);
+    let s = outcome.session;
+    let answer = outcome.answer;
+    let n = answers::put_answer(text, answer, out);
+    Done {
+        post: with_session(post, s),
+        n: answers::put_state(text, n, s),
+    }
+}
+
+fn feed(post: Post, piece: &[u8], room: &mut [u8], text: &mut [u8]) -> Done
+    ensures { λ r. ⌜ Is (feedTold post (now (piece .entry)) (feeding post (now (piece .entry)) (now (room .entry))) (now (text .entry))) r (now (text .exit)) × (now (room .exit) ≡ feeding post (now (piece .entry)) (now (room .entry)) .bytes) ⌝ }
+{
+    let s = post.session;
+    let lent = post.room;
+    let outcome = acts::feed_on(s, piece, room, lent);
+    let s = outcome.session;
+    let answer = outcome.answer;
+    let place = outcome.place;
+    let n = answers::put_answer(text, answer, b"");
+    let n = answers::put_used(text, n, outcome.used, place, piece, room);
+    Done {
+        post: with_session(post, s),
+        n: answers::put_state(text, n, s),
+    }
+}
+
+fn set(post: Post, buffer: Buffer, length: usize, text: &mut [u8]) -> Done
+    ensures { λ r. ⌜ Is (setTold post buffer length (now (text .entry))) r (now (text .exit)) ⌝ }
+{
+    let s = post.session;
+    let n = text::put(text, 0, b"ok");
+    Done {
+        post: lend(post, buffer, length),
+        n: answers::put_state(text, n, s),
+    }
+}
+
+// Does what a call says; the page is what help tells.
+fn obey<'a>(
+    call: Call,
+    post: Post,
+    number: usize,
+    given: &'a [u8],
+    page: &'a [u8],
+    out: &mut [u8],
+    room: &mut [u8],
+    text: &mut [u8],
+) -> Done
+    ensures { λ r. ⌜ Leaves (obeyed call post number (now (given .entry)) (now (page .entry)) (now (out .entry)) (now (room .entry)) (now (text .entry))) r (now (out .exit)) (now (room .exit)) (now (text .exit)) ⌝ }
+{
+    match call {
+        Call::Acts(what) => act(what, post, number, given, out, text),
+        Call::Feeds => feed(post, given, room, text),
+        Call::Tells(question) => Done {
+            post,
+            n: questions::answer(question, given, text),
+        },
+        Call::Sets(buffer) => set(post, buffer, number, text),
+        Call::Helps => Done {
+            post,
+            n: text::put(text, 0, page),
+        },
+    }
+}
+
+// A line read as a call, and obeyed.
+fn hear<'a>(
+    line: &'a [u8],
+    post: Post,
+    page: &'a [u8],
+    out: &mut [u8],
+    room: &mut [u8],
+    text: &mut [u8],
+) -> Done
+    ensures { λ r. ⌜ Leaves (hearing (now (line .entry)) post (now (page .entry)) (now (out .entry)) (now (room .entry)) (now (text .entry))) r (now (out .exit)) (now (room .exit)) (now (text .exit)) ⌝ }
+{
+    let mut bytes = [0u8; 2048];
+    match reading::read(line, &mut bytes) {
+        Asked::Understood {
+            call,
+            number,
+            count,
+        } => obey(
+            call,
+            post,
+            number,
+            text::front(&bytes, count),
+            page,
+            out,
+            room,
+            text,
+        ),
+        Asked::Wrong(fault) => Done {
+            post,
+            n: faults::put(text, fault),
+        },
+    }
+}
+
+// The answer to a line, at the front of the text, with no line end.
+pub fn answer<'a>(
+    line: &'a [u8],
+    post: Post,
+    page: &'a [u8],
+    out: &mut [u8],
+    room: &mut [u8],
+    text: &mut [u8],
+) -> Done
+    ensures { λ r. ⌜ Leaves (answered (now (line .entry)) post (now (page .entry)) (now (out .entry)) (now (room .entry)) (now (text .entry))) r (now (out .exit)) (now (room .exit)) (now (text .exit)) ⌝ }
+{
+    if line.len() <= text::skip(line, 0) {
+        return Done { post, n: 0 };
+    }
+    if text::at(line, 0) == b'#' {
+        return Done {
+            post,
+            n: text::put(text, 0, line),
+        };
+    }
+    hear(line, post, page, out, room, text)
+}
