@@ -1,9 +1,12 @@
-// The calls, with an example each.
+// The calls, with an example each: what help tells.
+use desk::Done;
+use desk::Post;
 
-pub fn put(text: &mut [u8]) -> usize {
-    text::put(
-        text,
-        0,
+// The answer to a line, with the page.
+pub fn answer(line: &[u8], post: Post, out: &mut [u8], room: &mut [u8], text: &mut [u8]) -> Done {
+    desk::answer(
+        line,
+        post,
         b"power-on uart                                     power was given, and the interface is uart or spi
 pulse                                             a low pulse was given on IRQ_IN
 idn                                               IDN, to be sent
@@ -26,5 +29,8 @@ received 00 08                                    what a poll or a read brought 
 out 600                                           the length of the lent output from now on
 room 600                                          the length of the reply room from now on
 help                                              this page",
+        out,
+        room,
+        text,
     )
 }

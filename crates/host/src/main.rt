@@ -1,12 +1,8 @@
 // The host program: reads calls, one a line, from the file that its argument names or from standard input, and answers each at once.
-mod answers;
-mod calls;
-mod desk;
-mod faults;
 mod help;
-mod questions;
 
-use crate::desk::Post;
+use calls::reading;
+use desk::Post;
 use libc::STDIN_FILENO;
 use libc::STDOUT_FILENO;
 
@@ -52,7 +48,7 @@ fn end_line(k: Keeper, line: &[u8], out: &mut [u8], room: &mut [u8]) -> Keeper {
         return begun(post);
     }
     let mut answer = [0u8; 8192];
-    let done = desk::answer(whole, post, out, room, &mut answer);
+    let done = help::answer(whole, post, out, room, &mut answer);
     let n = done.n;
     if n > 0 {
         let n = text::put(&mut answer, n, b"\n");
@@ -105,15 +101,15 @@ fn turn(fd: i32, k: Keeper, line: &mut [u8], out: &mut [u8], room: &mut [u8]) ->
 // that no run uses up.
 fn run(fd: i32) -> bool {
     let mut line = [0u8; LONGEST + 1];
-    let mut out = [0u8; calls::LONGEST];
-    let mut room = [0u8; calls::LONGEST];
+    let mut out = [0u8; reading::LONGEST];
+    let mut room = [0u8; reading::LONGEST];
     let line: &mut [u8] = &mut line;
     let out: &mut [u8] = &mut out;
     let room: &mut [u8] = &mut room;
     let mut k = begun(Post {
         session: session::unpowered(),
-        out: calls::LONGEST,
-        room: calls::LONGEST,
+        out: reading::LONGEST,
+        room: reading::LONGEST,
     });
     let mut reads = u64::MAX;
     let mut got = 1;
