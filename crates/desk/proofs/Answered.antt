@@ -3,14 +3,13 @@
 use Prim.Native.Nat.{ℕ, _+_, _≤_, _<_}
 use native.Mathlib.Omega.{arith}
 use mathlib.Core.Path.{_≡_, refl}
-use mathlib.Core.Bool.{Bool, true, false, _&&_}
+use mathlib.Core.Bool.{Bool, false, _&&_}
 use mathlib.Core.List.{List, [], _∷_, _++_}
 use lib.Dec.{T, leb, eqb, leb→le}
 use lib.Ieee.Fits.{and-l, and-r}
 use lib.ListN.{length}
 use lib.Seq.{paste}
 use borrow.Author.Tests.{le-leb, lt-leb, ne-eqb}
-use Rattle.model.specs.declared.Refusal.{Refusal}
 use Rattle.model.specs.declared.Answer.{Answer}
 use Rattle.model.specs.declared.Answer.the-variants.{Done, Sent, More, Good, Reference, Refused}
 use Rattle.model.specs.declared.Guard.{Guard}
@@ -20,7 +19,7 @@ use Rattle.model.specs.declared.Frame.the-variants.{Idn, ProtocolSelect, SendRe
 use Rattle.model.specs.declared.Reading.{Reading}
 use Rattle.model.specs.declared.Reading.the-variants.{Taken}
 use Rattle.model.specs.declared.Reading.the-variants.{Refused as NoFrame}
-use Rattle.model.specs.Words.{pick, bit}
+use Rattle.model.specs.Words.{bit}
 use Rattle.model.specs.Contract.{Ran}
 use Rattle.model.specs.Frames.{settings, settingsAllowed, readCommand}
 use Rattle.model.specs.Calibration.{band}
@@ -48,6 +47,10 @@ use Rattle.desk.specs.Claims.{Unmoved, Answered}
 pub unmoved : Unmoved
 unmoved line post page out room text fault some call wrong =
     simp (lt-leb (length line) (skipped line 0) some, ne-eqb (byteAt line 0) 35 call, wrong)
+
+-- its hypothesis is met: "tag" is the name of no call
+met : asked (word "tag") blankBytes .answer ≡ Wrong Unknown
+met = refl
 
 -- ---- what is told begins with a short word
 

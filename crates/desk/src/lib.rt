@@ -1,17 +1,12 @@
 // A line and what is kept from line to line, answered: the session and the lent buffers go in and come back.
 ghost use mathlib.Core.Path.{_≡_};
-ghost use mathlib.Core.List.{[], _∷_, _++_};
 ghost use Rattle.model.specs.Contract.{Is};
-ghost use Rattle.answers.specs.Answers.{answerText, stateText};
 ghost use Rattle.desk.specs.Desk.{withSession, lending, acting, actTold, feeding, feedTold, setTold, obeyed, hearing, answered, Leaves};
-ghost use Rattle.desk.specs.Desk.{told as Desk·told};
 use calls::Act;
 use calls::Asked;
 use calls::Buffer;
 use calls::Call;
-use calls::Question;
 use calls::reading;
-use model::Outcome;
 use model::Session;
 
 // The session, and how much of the output and of the reply room is lent.

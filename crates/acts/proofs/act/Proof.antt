@@ -5,7 +5,6 @@ use mathlib.Core.Path.{ap, ap₂}
 use denote.Ref.{now}
 use Prim.Native.Nat.{ℕ}
 use mathlib.Core.List.{List}
-use Rattle.model.specs.declared.Interface.{Interface}
 use Rattle.model.specs.declared.Plan.{Plan}
 use Rattle.model.specs.declared.Settings.{Settings}
 use Rattle.model.specs.Frames.{protocolSelect, idle}

@@ -3,7 +3,6 @@
 use borrow.Author.Needs.{needs}
 use native.Mathlib.Omega.{arith}
 use mathlib.Core.Path.{_∙_}
-use denote.Ref.{now}
 use Rattle.text.proofs.Decimal.{decimal-is, at-most-twenty}
 use Rattle.text.proofs.Writing.{puts-number}
 use Rattle.text.proofs.put_number.Statement.{statement}
