@@ -2,7 +2,7 @@
 -- Assumes nothing.
 use native.Mathlib.Omega.{arith}
 use mathlib.Core.Path.{refl}
-use lib.Ieee.{round, ofInt}
+use lib.Ieee.{round, ofBits, ofInt}
 use Rattle.model.specs.Times.{tL, tREF, tINACTIVE, tTO, tOSC, tDAC, milliseconds}
 use Rattle.cases.specs.Starred.{Starred}
 use Rattle.cases.specs.Replies.{Codes, Good-replies, Bad-replies, Pieces, Places}
@@ -10,14 +10,17 @@ use Rattle.cases.specs.Sessions.{Changes, Requests, Feeds, Calibrations,
 use Rattle.cases.specs.Published.{Frames, Read, Refused, Transfers, Outputs, Received, Prescalers, Waits, Numbers, Values, Mild, Widest}
 
 pub starred : Starred
-unfolding tL tREF tINACTIVE tTO tOSC tDAC milliseconds round ofInt
+unfolding tL tREF tINACTIVE tTO tOSC tDAC milliseconds round ofBits ofInt
 starred =
     record {
       calibration-frame = λ level. refl;
       calibration-ticks = λ level. refl;
-      calibration-times = refl;
+      calibration-times = λ level. refl;
+      calibration-told = refl;
+      calibration-waits = refl;
       longest-ticks = refl;
       longest-time = refl;
+      longest-wait = refl;
       switch-at-5C = refl;
       tag-only-at-00 = refl;
       timeout-only-at-FC = refl;

@@ -1,5 +1,14 @@
+pub mod Awaiting
 pub mod Starred
 pub mod Published
 pub mod Replies
+pub mod Framing
 pub mod Sessions
+pub mod Planned
+pub mod Timed
+pub mod Bands
+pub mod Refusing
+pub mod Untouched
+pub mod Tabled
+pub mod Replying
 pub mod Chips

@@ -9,7 +9,6 @@ use Rattle.model.specs.declared.Interface.the-variants.{Spi, Uart}
 use Rattle.model.specs.declared.Refusal.{Refusal}
 use Rattle.model.specs.declared.Refusal.the-variants.{Short, Invalid, Unready, Busy, Malformed, Unawaited, ChipError, LowestTimeout, HighestTag, NoLevel, NoBand, CalibrationError}
 use Rattle.model.specs.declared.Settings.{Settings}
-use Rattle.model.specs.declared.Frame.{Frame}
 use Rattle.model.specs.declared.Reading.{Reading}
 use Rattle.model.specs.declared.Reading.the-variants.{Taken}
 use Rattle.model.specs.declared.Written.{Written}
@@ -23,29 +22,13 @@ use Rattle.model.specs.Refusals.{numberOf, valuesOf}
 use Rattle.model.specs.Frames.{Command, idn, protocolSelect, sendRecv, idle, echo, frame, prescaler, Transfer, send, reset, poll, read, bytes, write, received, readCommand, noFrame}
 use Rattle.model.specs.Checks.{isMild}
 use Rattle.model.specs.Times.{timesOf, waitOf}
+use Rattle.cases.specs.Awaiting.{sleeping}
 use Rattle.cases.specs.Starred.{calibrating, longest, ms}
 use Rattle.cases.specs.Replies.{those}
 
 -- ---- frames
 
--- Active to Hibernate, woken by the sources given
-abbrev pub sleeping : ℕ → Settings
-sleeping source =
-    record {
-      source = source;
-      enter = record { first = 0x04; second = 0x00 };
-      wake = record { first = 0x04; second = 0x00 };
-      leave = record { first = 0x18; second = 0x00 };
-      period = 0;
-      osc = 0;
-      dac = 0;
-      low = 0;
-      high = 0;
-      swing = 0;
-      sleep = 0;
-    }
-
--- by a low pulse on IRQ_IN; and by nothing at all
+-- woken by a low pulse on IRQ_IN; and by nothing at all
 abbrev pub hibernate : Settings
 hibernate = sleeping 0x08
 

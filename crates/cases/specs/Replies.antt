@@ -6,7 +6,6 @@ use mathlib.Core.Bool.{Bool, true, false}
 use mathlib.Core.List.{List, [], _∷_, _++_, map}
 use lib.ListN.{replicate}
 use Rattle.model.specs.declared.Awaited.{Awaited}
-use Rattle.model.specs.declared.Awaited.the-variants.{Idn, ProtocolSelect, SendRecv, Idle, Echo}
 use Rattle.model.specs.declared.Phase.the-variants.{Begun, Failed, Counting, Waking, Data}
 use Rattle.model.specs.declared.Verdict.the-variants.{More, Good, Error, Malformed, NoRoom}
 use Rattle.model.specs.declared.Place.the-variants.{Nowhere, Piece, Room}
@@ -14,6 +13,7 @@ use Rattle.model.specs.declared.Fed.{Fed}
 use Rattle.model.specs.Words.{pick}
 use Rattle.model.specs.Contract.{Ran}
 use Rattle.model.specs.Replies.{leastRoom, isError, Meaning, meaning, reply, at, begun, feed, dataOf}
+use Rattle.cases.specs.Awaiting.{toIdn, toSelect, toSend, toIdle, toEcho, waking}
 
 -- ---- the error codes
 
@@ -33,14 +33,14 @@ name = 0x4E ∷ 0x46 ∷ 0x43 ∷ 0x20 ∷ 0x46 ∷ 0x53 ∷ 0x32 ∷ 0x4A ∷ 0
 
 abbrev pub Good-replies : Type 0
 Good-replies =
-    reply Idn (0x00 ∷ 0x0F ∷ name) ∷ reply (ProtocolSelect 1) (0x00 ∷ 0x00 ∷ []) ∷ reply SendRecv (0x80 ∷ 0x00 ∷ []) ∷
-    reply SendRecv (0x80 ∷ 0x05 ∷ 0x44 ∷ 0x00 ∷ 0x28 ∷ 0x00 ∷ 0x55 ∷ []) ∷ reply (Idle 0x03) (0x00 ∷ 0x01 ∷ 0x01 ∷ []) ∷
-    reply (Idle 0x03) (0x00 ∷ 0x01 ∷ 0x02 ∷ []) ∷ reply (Idle 0x08) (0x00 ∷ 0x01 ∷ 0x08 ∷ []) ∷ reply (Idle 0xD0) (0x00 ∷ 0x01 ∷ 0x10 ∷ []) ∷
+    reply toIdn (0x00 ∷ 0x0F ∷ name) ∷ reply (toSelect 1) (0x00 ∷ 0x00 ∷ []) ∷ reply toSend (0x80 ∷ 0x00 ∷ []) ∷
+    reply toSend (0x80 ∷ 0x05 ∷ 0x44 ∷ 0x00 ∷ 0x28 ∷ 0x00 ∷ 0x55 ∷ []) ∷ reply (toIdle 0x03) (0x00 ∷ 0x01 ∷ 0x01 ∷ []) ∷
+    reply (toIdle 0x03) (0x00 ∷ 0x01 ∷ 0x02 ∷ []) ∷ reply (toIdle 0x08) (0x00 ∷ 0x01 ∷ 0x08 ∷ []) ∷ reply (toIdle 0xD0) (0x00 ∷ 0x01 ∷ 0x10 ∷ []) ∷
     -- bytes after the last are not looked at
-    reply Echo (0x55 ∷ 0x55 ∷ []) ∷ reply (Idle 0x03) (0x82 ∷ 0x00 ∷ 0x99 ∷ []) ∷ reply Idn (0x8F ∷ 0x00 ∷ []) ∷ []
+    reply toEcho (0x55 ∷ 0x55 ∷ []) ∷ reply (toIdle 0x03) (0x82 ∷ 0x00 ∷ 0x99 ∷ []) ∷ reply toIdn (0x8F ∷ 0x00 ∷ []) ∷ []
     ≡ meaning Good name 17 ∷ meaning Good [] 2 ∷ meaning Good [] 2 ∷
-    meaning Good (0x44 ∷ 0x00 ∷ 0x28 ∷ 0x00 ∷ 0x55 ∷ []) 7 ∷ meaning Good (0x01 ∷ []) 3 ∷
-    meaning Good (0x02 ∷ []) 3 ∷ meaning Good (0x08 ∷ []) 3 ∷ meaning Good (0x10 ∷ []) 3 ∷
+    meaning Good (0x44 ∷ 0x00 ∷ 0x28 ∷ 0x00 ∷ 0x55 ∷ []) 7 ∷ meaning (waking 0x01) (0x01 ∷ []) 3 ∷
+    meaning (waking 0x02) (0x02 ∷ []) 3 ∷ meaning (waking 0x08) (0x08 ∷ []) 3 ∷ meaning (waking 0x10) (0x10 ∷ []) 3 ∷
     meaning Good [] 1 ∷ meaning (Error 0x82) [] 2 ∷ meaning (Error 0x8F) [] 2 ∷ []
 
 -- malformed at the byte of an index
@@ -49,14 +49,14 @@ malformed i = meaning Malformed [] (suc i)
 
 abbrev pub Bad-replies : Type 0
 Bad-replies =
-    reply Idn (0x55 ∷ []) ∷ reply (ProtocolSelect 1) (0x80 ∷ 0x00 ∷ []) ∷ reply SendRecv (0x00 ∷ 0x00 ∷ []) ∷ reply SendRecv (0x90 ∷ 0x00 ∷ []) ∷
-    reply SendRecv (0x84 ∷ 0x00 ∷ []) ∷ reply Echo (0x82 ∷ 0x00 ∷ []) ∷ reply Echo (0x00 ∷ []) ∷
+    reply toIdn (0x55 ∷ []) ∷ reply (toSelect 1) (0x80 ∷ 0x00 ∷ []) ∷ reply toSend (0x00 ∷ 0x00 ∷ []) ∷ reply toSend (0x90 ∷ 0x00 ∷ []) ∷
+    reply toSend (0x84 ∷ 0x00 ∷ []) ∷ reply toEcho (0x82 ∷ 0x00 ∷ []) ∷ reply toEcho (0x00 ∷ []) ∷
     -- without a source no event can come
-    reply (Idle 0xC0) (0x00 ∷ 0x01 ∷ 0x01 ∷ []) ∷
-    reply Idn (0x00 ∷ 0x0E ∷ []) ∷ reply (ProtocolSelect 1) (0x00 ∷ 0x01 ∷ []) ∷ reply (Idle 0x03) (0x00 ∷ 0x02 ∷ []) ∷
-    reply SendRecv (0x8D ∷ 0x01 ∷ []) ∷ reply Idn (0x82 ∷ 0x82 ∷ []) ∷
-    reply (Idle 0x03) (0x00 ∷ 0x01 ∷ 0x08 ∷ []) ∷ reply (Idle 0x01) (0x00 ∷ 0x01 ∷ 0x02 ∷ []) ∷ reply (Idle 0x1B) (0x00 ∷ 0x01 ∷ 0x03 ∷ []) ∷
-    reply (Idle 0x1B) (0x00 ∷ 0x01 ∷ 0x04 ∷ []) ∷ []
+    reply (toIdle 0xC0) (0x00 ∷ 0x01 ∷ 0x01 ∷ []) ∷
+    reply toIdn (0x00 ∷ 0x0E ∷ []) ∷ reply (toSelect 1) (0x00 ∷ 0x01 ∷ []) ∷ reply (toIdle 0x03) (0x00 ∷ 0x02 ∷ []) ∷
+    reply toSend (0x8D ∷ 0x01 ∷ []) ∷ reply toIdn (0x82 ∷ 0x82 ∷ []) ∷
+    reply (toIdle 0x03) (0x00 ∷ 0x01 ∷ 0x08 ∷ []) ∷ reply (toIdle 0x01) (0x00 ∷ 0x01 ∷ 0x02 ∷ []) ∷ reply (toIdle 0x1B) (0x00 ∷ 0x01 ∷ 0x03 ∷ []) ∷
+    reply (toIdle 0x1B) (0x00 ∷ 0x01 ∷ 0x04 ∷ []) ∷ []
     ≡ malformed 0 ∷ malformed 0 ∷ malformed 0 ∷ malformed 0 ∷ malformed 0 ∷ malformed 0 ∷ malformed 0 ∷ malformed 0 ∷
     malformed 1 ∷ malformed 1 ∷ malformed 1 ∷ malformed 1 ∷ malformed 1 ∷ malformed 2 ∷ malformed 2 ∷ malformed 2 ∷ malformed 2 ∷ []
 
@@ -73,35 +73,35 @@ abbrev pub fed : List ℕ → Fed → Ran Fed
 fed xs r = record { answer = r; bytes = xs }
 
 pub record Pieces : Type 0 where
-  pub nothing : feed (begun SendRecv) [] [] ≡ fed [] (record { verdict = More; used = 0; place = Nowhere; progress = begun SendRecv })
+  pub nothing : feed (begun toSend) [] [] ≡ fed [] (record { verdict = More; used = 0; place = Nowhere; progress = begun toSend })
   pub short-room :
-      feed (begun Echo) (0x55 ∷ []) (replicate 254 0) ≡ fed (replicate 254 0) (record { verdict = NoRoom; used = 0; place = Nowhere; progress = begun Echo })
+      feed (begun toEcho) (0x55 ∷ []) (replicate 254 0) ≡ fed (replicate 254 0) (record { verdict = NoRoom; used = 0; place = Nowhere; progress = begun toEcho })
   pub whole :
-      feed (begun SendRecv) (0x80 ∷ 0x02 ∷ 0x55 ∷ 0x66 ∷ 0x99 ∷ []) room ≡
-      fed room (record { verdict = Good; used = 4; place = Piece 2 2; progress = begun SendRecv })
+      feed (begun toSend) (0x80 ∷ 0x02 ∷ 0x55 ∷ 0x66 ∷ 0x99 ∷ []) room ≡
+      fed room (record { verdict = Good; used = 4; place = Piece 2 2; progress = begun toSend })
   pub without-data :
-      feed (begun SendRecv) (0x80 ∷ 0x00 ∷ []) room ≡ fed room (record { verdict = Good; used = 2; place = Nowhere; progress = begun SendRecv })
+      feed (begun toSend) (0x80 ∷ 0x00 ∷ []) room ≡ fed room (record { verdict = Good; used = 2; place = Nowhere; progress = begun toSend })
   pub one :
-      feed (begun SendRecv) (0x80 ∷ []) room ≡ fed room (record { verdict = More; used = 1; place = Nowhere; progress = at SendRecv Counting })
+      feed (begun toSend) (0x80 ∷ []) room ≡ fed room (record { verdict = More; used = 1; place = Nowhere; progress = at toSend Counting })
   pub two :
-      feed (at SendRecv Counting) (0x03 ∷ 0x55 ∷ []) room ≡
-      fed (holding 254 (0x55 ∷ [])) (record { verdict = More; used = 2; place = Nowhere; progress = at SendRecv (Data 1 3) })
+      feed (at toSend Counting) (0x03 ∷ 0x55 ∷ []) room ≡
+      fed (holding 254 (0x55 ∷ [])) (record { verdict = More; used = 2; place = Nowhere; progress = at toSend (Data 1 3) })
   pub three :
-      feed (at SendRecv (Data 1 3)) (0x66 ∷ []) (holding 254 (0x55 ∷ [])) ≡
-      fed (holding 253 (0x55 ∷ 0x66 ∷ [])) (record { verdict = More; used = 1; place = Nowhere; progress = at SendRecv (Data 2 3) })
+      feed (at toSend (Data 1 3)) (0x66 ∷ []) (holding 254 (0x55 ∷ [])) ≡
+      fed (holding 253 (0x55 ∷ 0x66 ∷ [])) (record { verdict = More; used = 1; place = Nowhere; progress = at toSend (Data 2 3) })
   pub four :
-      feed (at SendRecv (Data 2 3)) (0x77 ∷ 0x99 ∷ []) (holding 253 (0x55 ∷ 0x66 ∷ [])) ≡
-      fed (holding 252 (0x55 ∷ 0x66 ∷ 0x77 ∷ [])) (record { verdict = Good; used = 1; place = Room 3; progress = begun SendRecv })
+      feed (at toSend (Data 2 3)) (0x77 ∷ 0x99 ∷ []) (holding 253 (0x55 ∷ 0x66 ∷ [])) ≡
+      fed (holding 252 (0x55 ∷ 0x66 ∷ 0x77 ∷ [])) (record { verdict = Good; used = 1; place = Room 3; progress = begun toSend })
   -- all data in the piece just given
-  pub late : feed (at SendRecv (Data 0 1)) (0x55 ∷ []) room ≡ fed room (record { verdict = Good; used = 1; place = Piece 0 1; progress = begun SendRecv })
+  pub late : feed (at toSend (Data 0 1)) (0x55 ∷ []) room ≡ fed room (record { verdict = Good; used = 1; place = Piece 0 1; progress = begun toSend })
   pub event :
-      feed (at (Idle 0x02) Waking) (0x02 ∷ []) room ≡ fed room (record { verdict = Good; used = 1; place = Piece 0 1; progress = begun (Idle 0x02) })
+      feed (at (toIdle 0x02) Waking) (0x02 ∷ []) room ≡ fed room (record { verdict = waking 0x02; used = 1; place = Piece 0 1; progress = begun (toIdle 0x02) })
   pub error :
-      feed (at Idn (Failed 0x83)) (0x00 ∷ []) room ≡ fed room (record { verdict = Error 0x83; used = 1; place = Nowhere; progress = begun Idn })
+      feed (at toIdn (Failed 0x83)) (0x00 ∷ []) room ≡ fed room (record { verdict = Error 0x83; used = 1; place = Nowhere; progress = begun toIdn })
   -- records that no call made
-  pub full : feed (at SendRecv (Data 3 3)) (0x00 ∷ []) room ≡ fed room (record { verdict = Malformed; used = 1; place = Nowhere; progress = begun SendRecv })
+  pub full : feed (at toSend (Data 3 3)) (0x00 ∷ []) room ≡ fed room (record { verdict = Malformed; used = 1; place = Nowhere; progress = begun toSend })
   pub strange :
-      map (λ (a : Awaited). feed (at a Waking) (0x01 ∷ []) room .answer .verdict) (Idn ∷ ProtocolSelect 1 ∷ SendRecv ∷ Echo ∷ []) ≡ replicate 4 Malformed
+      map (λ (a : Awaited). feed (at a Waking) (0x01 ∷ []) room .answer .verdict) (toIdn ∷ toSelect 1 ∷ toSend ∷ toEcho ∷ []) ≡ replicate 4 Malformed
 
 -- ---- places
 

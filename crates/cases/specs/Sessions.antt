@@ -8,7 +8,6 @@ use lib.ListN.{replicate}
 use Rattle.model.specs.declared.Interface.{Interface}
 use Rattle.model.specs.declared.Interface.the-variants.{Uart, Spi}
 use Rattle.model.specs.declared.Refusal.the-variants.{Short, Invalid, Unready, Busy, Malformed, Unawaited, ChipError, LowestTimeout, HighestTag, NoLevel, CalibrationError}
-use Rattle.model.specs.declared.Awaited.the-variants.{Echo}
 use Rattle.model.specs.declared.Plan.{Plan}
 use Rattle.model.specs.declared.State.{State}
 use Rattle.model.specs.declared.State.the-variants.{PowerUp, Ready, Selected, Waiting, Lost}
@@ -18,6 +17,7 @@ use Rattle.model.specs.Frames.{idn, protocolSelect, sendRecv, idle, echo}
 use Rattle.model.specs.Replies.{begun}
 use Rattle.model.specs.Session.{isSelected, Call, pulse, request, reset, poll, read, calibrate, next, feed, unpowered}
 use Rattle.model.specs.History.{Event, Reached, run, on, isSent}
+use Rattle.cases.specs.Awaiting.{toEcho, woke}
 use Rattle.cases.specs.Starred.{plan, calibrating, room}
 
 -- the calls after a power-on
@@ -152,14 +152,14 @@ Calibrations =
     Refused Busy ∷ Refused Unready ∷ Refused Invalid ∷ Refused Short ∷
     Refused Busy ∷ Sent 17 ∷ Refused Short ∷ Refused Busy ∷ Refused Busy ∷
     Refused Busy ∷ Sent 3 ∷
-    Good ∷ Refused (LowestTimeout 1) ∷ Refused (HighestTag 2) ∷ Refused (CalibrationError 0x82 2) ∷ Refused Malformed ∷
+    woke 0x02 ∷ Refused (LowestTimeout 1) ∷ Refused (HighestTag 2) ∷ Refused (CalibrationError 0x82 2) ∷ Refused Malformed ∷
     Reference 0x00 8 ∷ Refused (NoLevel 8) ∷ Refused (CalibrationError 0x82 8) ∷ []
 
 -- ---- states
 
 -- Selected is the one state with a protocol
 abbrev pub Selecting : Type 0
-Selecting = map isSelected (PowerUp ∷ Ready ∷ Selected 1 ∷ Waiting (begun Echo) 1 ∷ Lost ∷ []) ≡ false ∷ false ∷ true ∷ false ∷ false ∷ []
+Selecting = map isSelected (PowerUp ∷ Ready ∷ Selected 1 ∷ Waiting (begun toEcho) 1 ∷ Lost ∷ []) ≡ false ∷ false ∷ true ∷ false ∷ false ∷ []
 
 -- ---- histories
 

@@ -7,24 +7,27 @@ use mathlib.Core.List.{List, [], _∷_, map, reverse}
 use lib.Dec.{leb}
 use lib.ListN.{replicate}
 use lib.IntN.{pos}
-use lib.Ieee.{Float, binary32, ofInt}
+use lib.Ieee.{Float, binary32, ofBits, ofInt}
 use Rattle.model.specs.declared.Interface.the-variants.{Uart}
 use Rattle.model.specs.declared.Refusal.the-variants.{NoBand}
 use Rattle.model.specs.declared.Settings.{Settings}
 use Rattle.model.specs.declared.Plan.{Plan}
+use Rattle.model.specs.declared.Timing.{Timing}
+use Rattle.model.specs.declared.Wait.the-variants.{After}
+use Rattle.model.specs.declared.Waiting.{Waiting}
 use Rattle.model.specs.declared.Guard.{Guard}
 use Rattle.model.specs.declared.Guard.the-variants.{Band}
 use Rattle.model.specs.declared.Answer.the-variants.{Reference}
 use Rattle.model.specs.declared.Flags.{Flags}
-use Rattle.model.specs.declared.Awaited.the-variants.{SendRecv, Idle}
 use Rattle.model.specs.declared.Verdict.the-variants.{Good, Error, Malformed}
 use Rattle.model.specs.Frames.{idle, frame, flags}
 use Rattle.model.specs.Replies.{meaning, reply}
-use Rattle.model.specs.Times.{ticks, milliseconds}
+use Rattle.model.specs.Times.{ticks, times, timesOf, waitOf}
 use Rattle.model.specs.Calibration.{settingsAt, band}
 use Rattle.model.specs.Session.{unpowered}
 use Rattle.model.specs.History.{Event, Exchange, exchanges}
 use Rattle.model.specs.Talk.{eventOf, calibrated, last}
+use Rattle.cases.specs.Awaiting.{toSend, toIdle, waking}
 
 -- the plan of the calibrations, and the settings of its Idle command at a level
 abbrev pub plan : Plan
@@ -64,6 +67,10 @@ longest =
 abbrev pub ms : ℕ → Float
 ms n = ofInt binary32 (pos n)
 
+-- 0.03125 ms, one tick, as an f32: 2 ^ -5
+abbrev pub tick : Float
+tick = ofBits binary32 0x3D000000
+
 -- ---- a calibration over UART, with a chip that gives tag up to a level and timeout above it
 
 abbrev pub room : List ℕ
@@ -86,9 +93,15 @@ pub record Starred : Type 0 where
       0x07 ∷ 0x0E ∷ 0x03 ∷ 0xA1 ∷ 0x00 ∷ 0xF8 ∷ 0x01 ∷ 0x18 ∷ 0x00 ∷ 0x20 ∷ 0x60 ∷ 0x60 ∷ 0x00 ∷ level ∷ 0x3F ∷ 0x01 ∷ []
   pub calibration-ticks : (level : ℕ) →
       ticks (calibrating level) ≡ record { low = 1; reference = 256; inactive = 8448; timeout = 16896; osc = 96; dac = 96 }
-  pub calibration-times : map milliseconds (8448 ∷ 16896 ∷ 96 ∷ []) ≡ ms 264 ∷ ms 528 ∷ ms 3 ∷ []
+  pub calibration-times : (level : ℕ) →
+      times (calibrating level) ≡ record { low = tick; reference = ms 8; inactive = ms 264; timeout = ms 528; osc = ms 3; dac = ms 3 }
+  pub calibration-told :
+      map (λ (level : ℕ). timesOf (calibrating level)) (0x00 ∷ 0x5C ∷ 0xFC ∷ []) ≡
+      replicate 3 (Timing.Known (ticks (calibrating 0x00)) (times (calibrating 0x00)))
+  pub calibration-waits : map (λ (level : ℕ). waitOf (calibrating level)) (0x00 ∷ 0x5C ∷ 0xFC ∷ []) ≡ replicate 3 (Waiting.Known (After (ms 528)))
   pub longest-ticks : ticks longest .timeout ≡ 134217728
-  pub longest-time : milliseconds 134217728 ≡ ms 4194304
+  pub longest-time : times longest .timeout ≡ ms 4194304
+  pub longest-wait : waitOf longest ≡ Waiting.Known (After (ms 4194304))
   pub switch-at-5C : levels (switchingAt 0x5C) ≡ 0x00 ∷ 0xFC ∷ 0x7C ∷ 0x3C ∷ 0x5C ∷ 0x6C ∷ 0x64 ∷ 0x60 ∷ []
   pub tag-only-at-00 : levels (switchingAt 0x00) ≡ 0x00 ∷ 0xFC ∷ 0x7C ∷ 0x3C ∷ 0x1C ∷ 0x0C ∷ 0x04 ∷ 0x00 ∷ []
   pub timeout-only-at-FC : levels (switchingAt 0xF8) ≡ 0x00 ∷ 0xFC ∷ 0x7C ∷ 0xBC ∷ 0xDC ∷ 0xEC ∷ 0xF4 ∷ 0xF8 ∷ []
@@ -99,8 +112,8 @@ pub record Starred : Type 0 where
       Band 0x54 0x64 ∷ Guard.Refused NoBand ∷ Guard.Refused NoBand ∷ Band 0xEC 0xFC ∷ Band 0x00 0x10 ∷ []
   pub poll-flags : map flags (0x08 ∷ 0xF3 ∷ []) ≡ record { read = true; send = false } ∷ record { read = false; send = false } ∷ []
   pub awaited-idle :
-      map (reply (Idle 0x03)) ((0x00 ∷ 0x01 ∷ 0x02 ∷ []) ∷ (0x00 ∷ 0x01 ∷ 0x08 ∷ []) ∷ []) ≡
-      meaning Good (0x02 ∷ []) 3 ∷ meaning Malformed [] 3 ∷ []
+      map (reply (toIdle 0x03)) ((0x00 ∷ 0x01 ∷ 0x02 ∷ []) ∷ (0x00 ∷ 0x01 ∷ 0x08 ∷ []) ∷ []) ≡
+      meaning (waking 0x02) (0x02 ∷ []) 3 ∷ meaning Malformed [] 3 ∷ []
   pub awaited-send-recv :
-      map (reply SendRecv) ((0x8D ∷ 0x00 ∷ []) ∷ (0x8D ∷ 0x01 ∷ []) ∷ (0x80 ∷ 0x00 ∷ []) ∷ []) ≡
+      map (reply toSend) ((0x8D ∷ 0x00 ∷ []) ∷ (0x8D ∷ 0x01 ∷ []) ∷ (0x80 ∷ 0x00 ∷ []) ∷ []) ≡
       meaning (Error 0x8D) [] 2 ∷ meaning Malformed [] 2 ∷ meaning Good [] 2 ∷ []

@@ -1,0 +1,234 @@
+-- Document 01, "Refusals by number", as a table: a row for each state, a column for each call, and in it the number of the refusal, 0 for none.
+-- Assumes nothing.
+use Prim.Native.Nat.{ℕ, suc, _-_}
+use Prim.Native.Char.{code}
+use Prim.Native.String.{String, [] as nothing, _∷_ as _then_}
+use mathlib.Core.Path.{_≡_}
+use mathlib.Core.List.{List, [], _∷_, _++_, map}
+use lib.Dec.{eqb}
+use lib.ListN.{replicate}
+use Rattle.model.specs.declared.Interface.{Interface}
+use Rattle.model.specs.declared.Interface.the-variants.{Spi, Uart}
+use Rattle.model.specs.declared.Calibration.the-variants.{On}
+use Rattle.model.specs.declared.State.{State}
+use Rattle.model.specs.declared.State.the-variants.{PowerUp, Ready, Selected, Lost}
+use Rattle.model.specs.declared.Session.{Session}
+use Rattle.model.specs.declared.Answer.{Answer}
+use Rattle.model.specs.Words.{pick}
+use Rattle.model.specs.Refusals.{numberOf}
+use Rattle.model.specs.Frames.{idn, protocolSelect, sendRecv, idle, echo}
+use Rattle.model.specs.Calibration.{search}
+use Rattle.model.specs.Session.{made, Call, pulse, request, reset, poll, read, calibrate, next, feed, step}
+use Rattle.cases.specs.Starred.{room}
+use Rattle.cases.specs.Sessions.{after, selects, selected, lost, tag}
+use Rattle.cases.specs.Framing.{levelled}
+use Rattle.cases.specs.Planned.{planned, begins}
+
+-- ---- the entries
+
+-- one digit an entry; blanks keep the columns apart
+abbrev pub entries : String → List ℕ
+entries nothing = []
+entries (letter then letters) = pick (eqb (code letter) 32) (entries letters) ((code letter - 48) ∷ entries letters)
+
+-- the number of a refusal, 0 for any other answer
+abbrev pub number : Answer → ℕ
+number Answer.Done = 0
+number (Answer.Sent n) = 0
+number Answer.More = 0
+number Answer.Good = 0
+number (Answer.Reference reference commands) = 0
+number (Answer.Refused k) = numberOf k
+
+-- ---- the columns
+
+-- the calls, with an output for a frame of n bytes, or for n bytes behind SPI's control byte, and with a room:
+-- IDN, Echo; ProtocolSelect with protocol 1, with 5, without a parameter, with nine; SendRecv of nothing, of a byte, of 256
+abbrev pub requests : (ℕ → List ℕ) → List Call
+requests out =
+    request idn (out 2) ∷ request echo (out 1) ∷
+    request (protocolSelect 1 (0x05 ∷ [])) (out 4) ∷ request (protocolSelect 5 (0x05 ∷ [])) (out 4) ∷
+    request (protocolSelect 1 []) (out 3) ∷ request (protocolSelect 1 (replicate 9 0x05)) (out 12) ∷
+    request (sendRecv []) (out 2) ∷ request (sendRecv (0x26 ∷ [])) (out 3) ∷ request (sendRecv (replicate 256 0x26)) (out 258) ∷ []
+
+-- Idle as it should be, with bit 2 of WU source, with DacDataL above DacDataH; a calibration with p = 3 and with 4; its next command
+abbrev pub sleeps : (ℕ → List ℕ) → List Call
+sleeps out =
+    request (idle (levelled 0xDB 0x10 0x11)) (out 16) ∷ request (idle (levelled 0xDF 0x10 0x11)) (out 16) ∷ request (idle (levelled 0xDB 0x11 0x10)) (out 16) ∷
+    calibrate (planned 3) (out 16) ∷ calibrate (planned 4) (out 16) ∷ next (out 16) ∷ []
+
+-- reset, poll; a read of 0, of 1, of 257, of 258; an empty piece, and one of the byte 55
+abbrev pub transfers : (ℕ → List ℕ) → List ℕ → List Call
+transfers out lent =
+    reset (out 0) ∷ poll (out 1) ∷ read 0 (out 0) ∷ read 1 (out 1) ∷ read 257 (out 257) ∷ read 258 (out 258) ∷ feed [] lent ∷ feed (0x55 ∷ []) lent ∷ []
+
+abbrev pub calls : (ℕ → List ℕ) → List ℕ → List Call
+calls out lent = requests out ++ sleeps out ++ transfers out lent
+
+abbrev pub row : (ℕ → List ℕ) → List ℕ → Session → List ℕ
+row out lent s = map (λ (c : Call). number (step s c .answer .answer)) (calls out lent)
+
+-- an output just long enough, and one a byte too short
+abbrev pub fits : Interface → ℕ → List ℕ
+fits Uart n = replicate n 0xEE
+fits Spi n = replicate (suc n) 0xEE
+
+abbrev pub short : Interface → ℕ → List ℕ
+short Uart n = replicate (n - 1) 0xEE
+short Spi n = replicate n 0xEE
+
+-- a room a byte too short
+abbrev pub narrow : List ℕ
+narrow = replicate 254 0xEE
+
+-- ---- the rows
+
+-- the sessions that these calls lead to, in the order of the rows below
+abbrev pub sessions : Interface → List Session
+sessions i =
+    map (λ (before : List Call). after i before .session) (
+    [] ∷ (pulse ∷ []) ∷ selected 1 ∷ selected 2 ∷ selected 4 ∷
+    (pulse ∷ request idn room ∷ []) ∷ (pulse ∷ selects 1) ∷ (selected 1 ++ request (sendRecv []) room ∷ []) ∷
+    (pulse ∷ request (idle (levelled 0xDB 0x10 0x11)) room ∷ []) ∷ (selected 2 ++ request echo room ∷ []) ∷
+    begins ∷ (begins ++ tag) ∷ (begins ++ tag ++ next room ∷ []) ∷ lost ∷ [])
+
+-- ---- the table
+
+-- columns: idn echo, select, send, idle, calibrate, next, reset poll, read, feed. With buffers just long enough, over UART and over SPI
+pub record Enough : Type 0 where
+  pub uart :
+      map (row (fits Uart) room) (sessions Uart) ≡
+      -- Power-up
+      entries "33 3333 333 333 33 4 22 2222 06" ∷
+      -- Ready
+      entries "00 0222 333 022 02 4 22 2222 06" ∷
+      -- Selected 1
+      entries "00 0222 002 022 02 4 22 2222 06" ∷
+      -- Selected 2
+      entries "00 0222 202 022 02 4 22 2222 06" ∷
+      -- Selected 4
+      entries "00 0222 202 022 02 4 22 2222 06" ∷
+      -- Waiting for IDN
+      entries "44 4444 444 444 44 4 22 2222 05" ∷
+      -- Waiting for ProtocolSelect
+      entries "44 4444 444 444 44 4 22 2222 05" ∷
+      -- Waiting for SendRecv
+      entries "44 4444 444 444 44 4 22 2222 05" ∷
+      -- Waiting for Idle
+      entries "44 4444 444 444 44 4 22 2222 05" ∷
+      -- Waiting for Echo
+      entries "44 4444 444 444 44 4 22 2222 00" ∷
+      -- Waiting for a calibration's first answer
+      entries "44 4444 444 444 44 4 22 2222 05" ∷
+      -- Ready for its second command
+      entries "44 4444 444 444 44 0 22 2222 06" ∷
+      -- Waiting for its second answer
+      entries "44 4444 444 444 44 4 22 2222 05" ∷
+      -- Lost
+      entries "33 3333 333 333 33 4 22 2222 06" ∷
+      []
+  pub spi :
+      map (row (fits Spi) room) (sessions Spi) ≡
+      -- Power-up
+      entries "33 3333 333 333 33 4 00 2002 06" ∷
+      -- Ready
+      entries "00 0222 333 022 02 4 00 2002 06" ∷
+      -- Selected 1
+      entries "00 0222 002 022 02 4 00 2002 06" ∷
+      -- Selected 2
+      entries "00 0222 202 022 02 4 00 2002 06" ∷
+      -- Selected 4
+      entries "00 0222 202 022 02 4 00 2002 06" ∷
+      -- Waiting for IDN
+      entries "44 4444 444 444 44 4 00 2002 05" ∷
+      -- Waiting for ProtocolSelect
+      entries "44 4444 444 444 44 4 00 2002 05" ∷
+      -- Waiting for SendRecv
+      entries "44 4444 444 444 44 4 00 2002 05" ∷
+      -- Waiting for Idle
+      entries "44 4444 444 444 44 4 00 2002 05" ∷
+      -- Waiting for Echo
+      entries "44 4444 444 444 44 4 00 2002 00" ∷
+      -- Waiting for a calibration's first answer
+      entries "44 4444 444 444 44 4 00 2002 05" ∷
+      -- Ready for its second command
+      entries "44 4444 444 444 44 0 00 2002 06" ∷
+      -- Waiting for its second answer
+      entries "44 4444 444 444 44 4 00 2002 05" ∷
+      -- Lost
+      entries "33 3333 333 333 33 4 00 2002 06" ∷
+      []
+
+-- with buffers a byte too short: 1 comes behind 4, 3 and 2, and behind 6, but before any byte of a piece; an empty piece needs no room
+pub record Short : Type 0 where
+  pub uart :
+      map (row (short Uart) narrow) (sessions Uart) ≡
+      -- Power-up
+      entries "33 3333 333 333 33 4 22 2222 06" ∷
+      -- Ready
+      entries "11 1222 333 122 12 4 22 2222 06" ∷
+      -- Selected 1
+      entries "11 1222 112 122 12 4 22 2222 06" ∷
+      -- Selected 2
+      entries "11 1222 212 122 12 4 22 2222 06" ∷
+      -- Selected 4
+      entries "11 1222 212 122 12 4 22 2222 06" ∷
+      -- Waiting for IDN
+      entries "44 4444 444 444 44 4 22 2222 01" ∷
+      -- Waiting for ProtocolSelect
+      entries "44 4444 444 444 44 4 22 2222 01" ∷
+      -- Waiting for SendRecv
+      entries "44 4444 444 444 44 4 22 2222 01" ∷
+      -- Waiting for Idle
+      entries "44 4444 444 444 44 4 22 2222 01" ∷
+      -- Waiting for Echo
+      entries "44 4444 444 444 44 4 22 2222 01" ∷
+      -- Waiting for a calibration's first answer
+      entries "44 4444 444 444 44 4 22 2222 01" ∷
+      -- Ready for its second command
+      entries "44 4444 444 444 44 1 22 2222 06" ∷
+      -- Waiting for its second answer
+      entries "44 4444 444 444 44 4 22 2222 01" ∷
+      -- Lost
+      entries "33 3333 333 333 33 4 22 2222 06" ∷
+      []
+  pub spi :
+      map (row (short Spi) narrow) (sessions Spi) ≡
+      -- Power-up
+      entries "33 3333 333 333 33 4 11 2112 06" ∷
+      -- Ready
+      entries "11 1222 333 122 12 4 11 2112 06" ∷
+      -- Selected 1
+      entries "11 1222 112 122 12 4 11 2112 06" ∷
+      -- Selected 2
+      entries "11 1222 212 122 12 4 11 2112 06" ∷
+      -- Selected 4
+      entries "11 1222 212 122 12 4 11 2112 06" ∷
+      -- Waiting for IDN
+      entries "44 4444 444 444 44 4 11 2112 01" ∷
+      -- Waiting for ProtocolSelect
+      entries "44 4444 444 444 44 4 11 2112 01" ∷
+      -- Waiting for SendRecv
+      entries "44 4444 444 444 44 4 11 2112 01" ∷
+      -- Waiting for Idle
+      entries "44 4444 444 444 44 4 11 2112 01" ∷
+      -- Waiting for Echo
+      entries "44 4444 444 444 44 4 11 2112 01" ∷
+      -- Waiting for a calibration's first answer
+      entries "44 4444 444 444 44 4 11 2112 01" ∷
+      -- Ready for its second command
+      entries "44 4444 444 444 44 1 11 2112 06" ∷
+      -- Waiting for its second answer
+      entries "44 4444 444 444 44 4 11 2112 01" ∷
+      -- Lost
+      entries "33 3333 333 333 33 4 11 2112 06" ∷
+      []
+
+-- records that no call made, with a calibration that runs in Power-up, Selected 2 and Lost, and in Ready after its eighth command
+abbrev pub strange : List Session
+strange =
+    map (λ (state : State). made Uart state (On (planned 3) (search 3 0x7C))) (PowerUp ∷ Selected 2 ∷ Lost ∷ []) ++
+    made Uart Ready (On (planned 3) (search 8 0x7C)) ∷ []
+
+abbrev pub Strange : Type 0
+Strange = map (row (fits Uart) room) strange ≡ replicate 4 (entries "44 4444 444 444 44 4 22 2222 06")

@@ -1,0 +1,87 @@
+-- Document 01, "Replies, by awaited command": which bytes can stand first, second and third in a reply, and how many are taken.
+-- Assumes nothing.
+use Prim.Native.Nat.{ℕ}
+use mathlib.Core.Path.{_≡_}
+use mathlib.Core.Bool.{Bool, true, false, not}
+use mathlib.Core.List.{List, [], _∷_, _++_, map}
+use Rattle.model.specs.declared.Awaited.{Awaited}
+use Rattle.model.specs.declared.Verdict.{Verdict}
+use Rattle.model.specs.declared.Verdict.the-variants.{More, Good, Error, Malformed, NoRoom}
+use Rattle.model.specs.Replies.{Meaning, meaning, reply}
+use Rattle.cases.specs.Awaiting.{toIdn, toSelect, toSend, toIdle, toEcho, waking}
+use Rattle.cases.specs.Replies.{those, malformed}
+
+-- ---- every byte at each place
+
+abbrev pub isMalformed : Verdict → Bool
+isMalformed More = false
+isMalformed Good = false
+isMalformed (Error code) = false
+isMalformed Malformed = true
+isMalformed NoRoom = false
+
+-- the bytes that a reply to the awaited command can have behind others
+abbrev pub behind : Awaited → List ℕ → List ℕ
+behind a xs = those (λ (b : ℕ). not (isMalformed (reply a (xs ++ b ∷ []) .verdict))) 256 []
+
+abbrev pub codes : List ℕ
+codes = 0x82 ∷ 0x83 ∷ 0x85 ∷ 0x86 ∷ 0x87 ∷ 0x88 ∷ 0x89 ∷ 0x8A ∷ 0x8B ∷ 0x8C ∷ 0x8D ∷ 0x8E ∷ 0x8F ∷ []
+
+pub record Bytes : Type 0 where
+  pub first :
+      map (λ (a : Awaited). behind a []) (toIdn ∷ toSelect 0 ∷ toSelect 3 ∷ toSend ∷ toIdle 0x03 ∷ toEcho ∷ []) ≡
+      (0x00 ∷ codes) ∷ (0x00 ∷ codes) ∷ (0x00 ∷ codes) ∷ (0x80 ∷ codes) ∷ (0x00 ∷ codes) ∷ (0x55 ∷ []) ∷ []
+  pub behind-a-result :
+      behind toIdn (0x00 ∷ []) ∷ behind (toSelect 0) (0x00 ∷ []) ∷ behind (toSelect 3) (0x00 ∷ []) ∷ behind (toIdle 0x03) (0x00 ∷ []) ∷ [] ≡
+      (0x0F ∷ []) ∷ (0x00 ∷ []) ∷ (0x00 ∷ []) ∷ (0x01 ∷ []) ∷ []
+  -- of SendRecv any length
+  pub behind-80 : behind toSend (0x80 ∷ []) ≡ those (λ (n : ℕ). true) 256 []
+  pub behind-a-code :
+      behind toIdn (0x82 ∷ []) ∷ behind (toSelect 0) (0x83 ∷ []) ∷ behind (toSelect 3) (0x85 ∷ []) ∷ behind toSend (0x8F ∷ []) ∷
+      behind (toIdle 0x03) (0x8D ∷ []) ∷ [] ≡
+      (0x00 ∷ []) ∷ (0x00 ∷ []) ∷ (0x00 ∷ []) ∷ (0x00 ∷ []) ∷ (0x00 ∷ []) ∷ []
+  -- the events of a WU source
+  pub events :
+      map (λ (source : ℕ). behind (toIdle source) (0x00 ∷ 0x01 ∷ []))
+      (0x01 ∷ 0x02 ∷ 0x08 ∷ 0x10 ∷ 0x43 ∷ 0x98 ∷ 0xC9 ∷ 0xDB ∷ 0xE5 ∷ []) ≡
+      (0x01 ∷ []) ∷ (0x02 ∷ []) ∷ (0x08 ∷ []) ∷ (0x10 ∷ []) ∷ (0x01 ∷ 0x02 ∷ []) ∷ (0x08 ∷ 0x10 ∷ []) ∷ (0x01 ∷ 0x08 ∷ []) ∷
+      (0x01 ∷ 0x02 ∷ 0x08 ∷ 0x10 ∷ []) ∷ (0x01 ∷ []) ∷ []
+  -- the sources that have none: 00 begins no reply, and an error still does
+  pub sourceless :
+      those (λ (source : ℕ). isMalformed (reply (toIdle source) (0x00 ∷ []) .verdict)) 256 [] ≡
+      0x00 ∷ 0x04 ∷ 0x20 ∷ 0x24 ∷ 0x40 ∷ 0x44 ∷ 0x60 ∷ 0x64 ∷ 0x80 ∷ 0x84 ∷ 0xA0 ∷ 0xA4 ∷ 0xC0 ∷ 0xC4 ∷ 0xE0 ∷ 0xE4 ∷ []
+  pub sourceless-error : behind (toIdle 0xE4) [] ≡ codes
+
+-- ---- how many bytes are taken
+
+-- 15 bytes of IDN, no two alike
+abbrev pub fifteen : List ℕ
+fifteen = 0x31 ∷ 0x32 ∷ 0x33 ∷ 0x34 ∷ 0x35 ∷ 0x36 ∷ 0x37 ∷ 0x38 ∷ 0x39 ∷ 0x3A ∷ 0x3B ∷ 0x3C ∷ 0x3D ∷ 0x3E ∷ 0x3F ∷ []
+
+pub record Taken : Type 0 where
+  -- through the last byte of the reply, whatever follows
+  pub whole :
+      reply toIdn (0x00 ∷ 0x0F ∷ fifteen ++ 0x99 ∷ 0x98 ∷ []) ∷ reply (toSelect 3) (0x00 ∷ 0x00 ∷ 0x99 ∷ 0x98 ∷ []) ∷
+      reply toSend (0x80 ∷ 0x03 ∷ 0xC1 ∷ 0xC2 ∷ 0xC3 ∷ 0x99 ∷ 0x98 ∷ []) ∷ reply toSend (0x80 ∷ 0x00 ∷ 0x99 ∷ 0x98 ∷ []) ∷
+      reply (toIdle 0xDB) (0x00 ∷ 0x01 ∷ 0x08 ∷ 0x99 ∷ 0x98 ∷ []) ∷ reply toEcho (0x55 ∷ 0x99 ∷ 0x98 ∷ []) ∷ [] ≡
+      meaning Good fifteen 17 ∷ meaning Good [] 2 ∷
+      meaning Good (0xC1 ∷ 0xC2 ∷ 0xC3 ∷ []) 5 ∷ meaning Good [] 2 ∷
+      meaning (waking 0x08) (0x08 ∷ []) 3 ∷ meaning Good [] 1 ∷ []
+  pub error :
+      reply toIdn (0x85 ∷ 0x00 ∷ 0x99 ∷ 0x98 ∷ []) ∷ reply (toSelect 3) (0x83 ∷ 0x00 ∷ 0x99 ∷ []) ∷ reply toSend (0x8E ∷ 0x00 ∷ 0x99 ∷ []) ∷
+      reply (toIdle 0xDB) (0x86 ∷ 0x00 ∷ 0x99 ∷ []) ∷ [] ≡
+      meaning (Error 0x85) [] 2 ∷ meaning (Error 0x83) [] 2 ∷ meaning (Error 0x8E) [] 2 ∷ meaning (Error 0x86) [] 2 ∷ []
+  -- through the first malformed byte
+  pub wrong :
+      reply toIdn (0x84 ∷ 0x00 ∷ 0x99 ∷ []) ∷ reply toIdn (0x85 ∷ 0x85 ∷ 0x99 ∷ []) ∷ reply toIdn (0x00 ∷ 0x10 ∷ 0x99 ∷ []) ∷
+      reply (toSelect 3) (0x00 ∷ 0x02 ∷ 0x99 ∷ []) ∷ reply toSend (0x81 ∷ 0x00 ∷ 0x99 ∷ []) ∷ reply toSend (0x8E ∷ 0x01 ∷ 0x99 ∷ []) ∷
+      reply (toIdle 0xDB) (0x00 ∷ 0x01 ∷ 0x04 ∷ 0x99 ∷ []) ∷ reply toEcho (0x54 ∷ 0x55 ∷ 0x99 ∷ []) ∷ [] ≡
+      malformed 0 ∷ malformed 1 ∷ malformed 1 ∷ malformed 1 ∷ malformed 0 ∷ malformed 1 ∷ malformed 2 ∷ malformed 0 ∷ []
+  -- or all
+  pub cut :
+      reply toIdn [] ∷ reply toIdn (0x00 ∷ []) ∷ reply toIdn (0x00 ∷ 0x0F ∷ []) ∷ reply toIdn (0x00 ∷ 0x0F ∷ 0x31 ∷ 0x32 ∷ []) ∷ reply toIdn (0x85 ∷ []) ∷
+      reply (toSelect 3) (0x00 ∷ []) ∷ reply toSend (0x80 ∷ []) ∷ reply toSend (0x80 ∷ 0x03 ∷ 0xC1 ∷ 0xC2 ∷ []) ∷
+      reply (toIdle 0xDB) (0x00 ∷ []) ∷ reply (toIdle 0xDB) (0x00 ∷ 0x01 ∷ []) ∷ reply toEcho [] ∷ [] ≡
+      meaning More [] 0 ∷ meaning More [] 1 ∷ meaning More [] 2 ∷ meaning More [] 4 ∷ meaning More [] 1 ∷
+      meaning More [] 1 ∷ meaning More [] 1 ∷ meaning More [] 4 ∷
+      meaning More [] 1 ∷ meaning More [] 2 ∷ meaning More [] 0 ∷ []
