@@ -6,8 +6,9 @@ use lib.Ieee.{round, ofBits, ofInt}
 use Rattle.model.specs.Times.{tL, tREF, tINACTIVE, tTO, tOSC, tDAC, milliseconds}
 use Rattle.cases.specs.Starred.{Starred}
 use Rattle.cases.specs.Replies.{Codes, Good-replies, Bad-replies, Pieces, Places}
-use Rattle.cases.specs.Sessions.{Changes, Requests, Feeds, Calibrations, Selecting, Given}
-use Rattle.cases.specs.Published.{Frames, Read, Refused, Transfers, Outputs, Received, Prescalers, Waits, Numbers, Values, Mild, Widest}
+use Rattle.cases.specs.Sessions.{Changes, Requests, Feeds, Calibrations, Selecting, Pulses, Given}
+use Rattle.cases.specs.Published.{Frames, Read, Refused, Transfers, Outputs, Received, Prescalers, Waits, Numbers, Values, Mild}
+use Rattle.cases.specs.Copying.{Widest, Wider, Bits, Parts, Copies, Joined}
 
 pub starred : Starred
 unfolding tL tREF tINACTIVE tTO tOSC tDAC milliseconds round ofBits ofInt
@@ -104,6 +105,8 @@ pieces =
       event = refl;
       error = refl;
       full = refl;
+      overfull = refl;
+      counted-echo = refl;
       strange = refl;
     }
 
@@ -123,10 +126,28 @@ pub calibrations : Calibrations
 calibrations = refl
 
 pub selecting : Selecting
-selecting = refl
+selecting = record { is-selected = refl; protocol = refl }
+
+pub pulses : Pulses
+pulses = record { told = refl; led = refl; interface = refl; before-the-first = refl }
 
 pub given : Given
 given = refl
 
 pub widest : Widest
 widest = (omega arith, tt)
+
+pub wider : Wider
+wider (below, _) = omega (arith, below)
+
+pub bits : Bits
+bits = refl
+
+pub parts : Parts
+parts = refl
+
+pub copies : Copies
+copies = refl
+
+pub joined : Joined
+joined = refl

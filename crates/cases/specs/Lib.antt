@@ -2,6 +2,7 @@ pub mod Awaiting
 pub mod Starred
 pub mod Published
 pub mod Replies
+pub mod Copying
 pub mod Framing
 pub mod Sessions
 pub mod Planned
@@ -11,4 +12,6 @@ pub mod Refusing
 pub mod Untouched
 pub mod Tabled
 pub mod Replying
+pub mod Ending
+pub mod Histories
 pub mod Chips

@@ -16,7 +16,6 @@ use Rattle.model.specs.declared.Written.the-variants.{Sent}
 use Rattle.model.specs.declared.Wait.the-variants.{Endless, After}
 use Rattle.model.specs.declared.Waiting.{Waiting}
 use Rattle.model.specs.declared.Timing.{Timing}
-use Rattle.model.specs.Words.{Bytes}
 use Rattle.model.specs.Contract.{Ran}
 use Rattle.model.specs.Refusals.{numberOf, valuesOf}
 use Rattle.model.specs.Frames.{Command, idn, protocolSelect, sendRecv, idle, echo, frame, prescaler, Transfer, send, reset, poll, read, bytes, write, received, readCommand, noFrame}
@@ -152,9 +151,3 @@ Values =
 -- those that change nothing, write nothing and consume nothing
 abbrev pub Mild : Type 0
 Mild = those isMild 13 [] ≡ 1 ∷ 2 ∷ 3 ∷ 4 ∷ 6 ∷ 11 ∷ []
-
--- ---- bytes
-
--- FF is one
-abbrev pub Widest : Type 0
-Widest = Bytes (0xFF ∷ [])

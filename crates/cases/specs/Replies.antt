@@ -100,12 +100,21 @@ pub record Pieces : Type 0 where
       feed (at toIdn (Failed 0x83)) (0x00 ∷ []) room ≡ fed room (record { verdict = Error 0x83; used = 1; place = Nowhere; progress = begun toIdn })
   -- records that no call made
   pub full : feed (at toSend (Data 3 3)) (0x00 ∷ []) room ≡ fed room (record { verdict = Malformed; used = 1; place = Nowhere; progress = begun toSend })
+  pub overfull :
+      feed (at toSend (Data 4 3)) (0x00 ∷ 0x01 ∷ []) room ≡ fed room (record { verdict = Malformed; used = 1; place = Nowhere; progress = begun toSend })
+  pub counted-echo :
+      feed (at toEcho Counting) (0x00 ∷ 0x01 ∷ []) room ≡ fed room (record { verdict = Malformed; used = 1; place = Nowhere; progress = begun toEcho })
   pub strange :
       map (λ (a : Awaited). feed (at a Waking) (0x01 ∷ []) room .answer .verdict) (toIdn ∷ toSelect 1 ∷ toSend ∷ toEcho ∷ []) ≡ replicate 4 Malformed
 
 -- ---- places
 
+-- a part of the piece or of the room, up to its end and past it
+
 abbrev pub Places : Type 0
 Places =
-    map (dataOf (1 ∷ 2 ∷ 3 ∷ []) (7 ∷ 8 ∷ [])) (Nowhere ∷ Piece 1 2 ∷ Piece 3 0 ∷ Piece 2 2 ∷ Piece 4 0 ∷ Room 2 ∷ Room 0 ∷ Room 3 ∷ [])
-    ≡ [] ∷ (2 ∷ 3 ∷ []) ∷ [] ∷ [] ∷ [] ∷ (7 ∷ 8 ∷ []) ∷ [] ∷ [] ∷ []
+    map (dataOf (1 ∷ 2 ∷ 3 ∷ 4 ∷ []) (7 ∷ 8 ∷ 9 ∷ [])) (
+    Nowhere ∷ Piece 1 2 ∷ Piece 0 4 ∷ Piece 2 2 ∷ Piece 3 1 ∷ Piece 4 0 ∷ Piece 2 3 ∷ Piece 3 2 ∷ Piece 0 5 ∷ Piece 5 0 ∷ Piece 4 1 ∷
+    Room 2 ∷ Room 3 ∷ Room 0 ∷ Room 4 ∷ [])
+    ≡ [] ∷ (2 ∷ 3 ∷ []) ∷ (1 ∷ 2 ∷ 3 ∷ 4 ∷ []) ∷ (3 ∷ 4 ∷ []) ∷ (4 ∷ []) ∷ [] ∷ [] ∷ [] ∷ [] ∷ [] ∷ [] ∷
+    (7 ∷ 8 ∷ []) ∷ (7 ∷ 8 ∷ 9 ∷ []) ∷ [] ∷ [] ∷ []

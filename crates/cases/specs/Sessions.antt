@@ -9,13 +9,14 @@ use Rattle.model.specs.declared.Interface.{Interface}
 use Rattle.model.specs.declared.Interface.the-variants.{Uart, Spi}
 use Rattle.model.specs.declared.Refusal.the-variants.{Short, Invalid, Unready, Busy, Malformed, Unawaited, ChipError, LowestTimeout, HighestTag, NoLevel, CalibrationError}
 use Rattle.model.specs.declared.Plan.{Plan}
+use Rattle.model.specs.declared.Calibration.the-variants.{Off}
 use Rattle.model.specs.declared.State.{State}
 use Rattle.model.specs.declared.State.the-variants.{PowerUp, Ready, Selected, Waiting, Lost}
 use Rattle.model.specs.declared.Answer.{Answer}
 use Rattle.model.specs.declared.Answer.the-variants.{Done, Sent, More, Good, Reference, Refused}
 use Rattle.model.specs.Frames.{idn, protocolSelect, sendRecv, idle, echo}
 use Rattle.model.specs.Replies.{begun}
-use Rattle.model.specs.Session.{isSelected, Call, pulse, request, reset, poll, read, calibrate, next, feed, unpowered}
+use Rattle.model.specs.Session.{made, isSelected, protocolOf, Call, power-on, pulse, request, reset, poll, read, calibrate, next, feed, unpowered}
 use Rattle.model.specs.History.{Event, Reached, run, on, isSent}
 use Rattle.cases.specs.Awaiting.{toEcho, woke}
 use Rattle.cases.specs.Starred.{plan, calibrating, room}
@@ -158,8 +159,21 @@ Calibrations =
 -- ---- states
 
 -- Selected is the one state with a protocol
-abbrev pub Selecting : Type 0
-Selecting = map isSelected (PowerUp ∷ Ready ∷ Selected 1 ∷ Waiting (begun toEcho) 1 ∷ Lost ∷ []) ≡ false ∷ false ∷ true ∷ false ∷ false ∷ []
+pub record Selecting : Type 0 where
+  pub is-selected : map isSelected (PowerUp ∷ Ready ∷ Selected 1 ∷ Waiting (begun toEcho) 1 ∷ Lost ∷ []) ≡ false ∷ false ∷ true ∷ false ∷ false ∷ []
+  pub protocol : map protocolOf (PowerUp ∷ Ready ∷ Selected 3 ∷ Waiting (begun toEcho) 3 ∷ Lost ∷ []) ≡ 0 ∷ 0 ∷ 3 ∷ 0 ∷ 0 ∷ []
+
+-- power-on and a pulse are taken everywhere; the pulse leads from Power-up to Ready and changes nothing else
+pub record Pulses : Type 0 where
+  pub told : answers Uart ([] ∷ (pulse ∷ []) ∷ (lost ++ pulse ∷ []) ∷ (selected 2 ++ power-on Spi ∷ []) ∷ []) ≡ Done ∷ Done ∷ Done ∷ Done ∷ []
+  pub led :
+      states Uart ((pulse ∷ []) ∷ (pulse ∷ pulse ∷ []) ∷ (selected 2 ++ pulse ∷ []) ∷ (lost ++ pulse ∷ []) ∷ (pulse ∷ request echo room ∷ pulse ∷ []) ∷ []) ≡
+      Ready ∷ Ready ∷ Selected 2 ∷ Lost ∷ Waiting (begun toEcho) 0 ∷ []
+  -- the interface stays until the next power-on
+  pub interface :
+      map (λ (calls : List Call). after Spi calls .session .interface) ((pulse ∷ []) ∷ selected 2 ∷ lost ∷ (selected 2 ++ reset room ∷ []) ∷ (selected 2 ++ power-on Uart ∷ []) ∷ []) ≡
+      Spi ∷ Spi ∷ Spi ∷ Spi ∷ Uart ∷ []
+  pub before-the-first : unpowered ≡ made Uart Lost Off
 
 -- ---- histories
 
