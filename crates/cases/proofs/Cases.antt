@@ -126,7 +126,7 @@ pub calibrations : Calibrations
 calibrations = refl
 
 pub selecting : Selecting
-selecting = record { is-selected = refl; protocol = refl }
+selecting = record { is-selected = refl; off = refl; protocol = refl }
 
 pub pulses : Pulses
 pulses = record { told = refl; led = refl; interface = refl; before-the-first = refl }

@@ -1,7 +1,6 @@
 -- How calibrations end, and what histories say of them, by computation.
 -- Assumes nothing.
 use mathlib.Core.Path.{refl}
-use Rattle.model.specs.declared.Interface.{Interface}
 use Rattle.model.specs.declared.Interface.the-variants.{Spi, Uart}
 use Rattle.cases.specs.Ending.{GoesOn, Ends, EveryEnd}
 use Rattle.cases.specs.Histories.{Read, EveryReading, Last, Driven}

@@ -1,8 +1,14 @@
 -- Replies by their bytes, and every state before them, by computation.
 -- Assumes nothing.
-use mathlib.Core.Path.{refl}
-use Rattle.cases.specs.Tabled.{Bytes, Taken}
-use Rattle.cases.specs.Replying.{From, FromSelected, EveryState, EveryCut, EveryBeginning, Rooms}
+use Prim.Native.Nat.{ℕ}
+use native.Mathlib.Omega.{arith}
+use mathlib.Core.Path.{_≡_, refl}
+use mathlib.Core.List.{[], _∷_}
+use Rattle.model.specs.declared.Awaited.{Awaited}
+use Rattle.model.specs.Replies.{Reply, Reply.idn, Reply.protocolSelect, Reply.sendRecv, Reply.idle, Reply.echo, Reply.error}
+use Rattle.cases.specs.Awaiting.{toSend, toEcho}
+use Rattle.cases.specs.Tabled.{Bytes, Related, Taken, fifteen}
+use Rattle.cases.specs.Replying.{EveryState, EveryCut, EveryBeginning, Rooms}
 
 pub bytes : Bytes
 bytes =
@@ -15,6 +21,20 @@ bytes =
       sourceless = refl;
       sourceless-error = refl;
     }
+
+pub related : Related
+related =
+    record {
+      to-idn = Reply.idn fifteen refl;
+      to-select = Reply.protocolSelect 3;
+      to-send = Reply.sendRecv 3 (0xC1 ∷ 0xC2 ∷ 0xC3 ∷ []) refl;
+      to-idle = Reply.idle 0xDB 0x08 refl;
+      to-echo = Reply.echo;
+      error = Reply.error toSend 0x8E apart refl;
+    }
+  where
+    apart : _≡_ {A = Awaited} toSend toEcho → ⊥
+    apart same = let z : _≡_ {A = ℕ} 0 1 = cc in omega arith
 
 pub taken : Taken
 taken = record { whole = refl; error = refl; wrong = refl; cut = refl }

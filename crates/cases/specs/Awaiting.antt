@@ -1,4 +1,4 @@
--- Names that the cases share: the commands whose replies are awaited, a good reply to Idle, and a frame read back as its command.
+-- Names that the cases share: the commands whose replies are awaited, answers and verdicts, and a frame read back as its command.
 -- Assumes nothing.
 use Prim.Native.Nat.{ℕ}
 use mathlib.Core.Bool.{Bool, true, false}
@@ -12,6 +12,7 @@ use Rattle.model.specs.declared.Reading.the-variants.{Taken}
 use Rattle.model.specs.declared.Awaited.{Awaited}
 use Rattle.model.specs.declared.Verdict.{Verdict}
 use Rattle.model.specs.declared.Answer.{Answer}
+use Rattle.model.specs.Refusals.{numberOf, valuesOf}
 use Rattle.model.specs.Frames.{Command, idn, protocolSelect, sendRecv, idle, echo, readCommand, command}
 use Rattle.model.specs.Session.{awaitedOf}
 
@@ -58,6 +59,24 @@ waking event = Verdict.Good
 -- as a session answers it, and a calibration that goes on
 abbrev pub woke : ℕ → Answer
 woke event = Answer.Good
+
+-- ---- answers and verdicts
+
+-- a refusal's number and its values, a reference and the number of commands behind a 0, nothing of another answer
+abbrev pub toldBy : Answer → List ℕ
+toldBy Answer.Done = []
+toldBy (Answer.Sent n) = []
+toldBy Answer.More = []
+toldBy Answer.Good = []
+toldBy (Answer.Reference reference commands) = 0 ∷ reference ∷ commands ∷ []
+toldBy (Answer.Refused k) = numberOf k ∷ valuesOf k
+
+abbrev pub isMalformed : Verdict → Bool
+isMalformed Verdict.More = false
+isMalformed Verdict.Good = false
+isMalformed (Verdict.Error code) = false
+isMalformed Verdict.Malformed = true
+isMalformed Verdict.NoRoom = false
 
 -- ---- the command reader
 

@@ -3,26 +3,20 @@
 use Prim.Native.Nat.{ℕ}
 use mathlib.Core.Path.{_≡_}
 use mathlib.Core.List.{List, [], _∷_, _++_, map}
-use lib.ListN.{replicate}
 use Rattle.model.specs.declared.Interface.{Interface}
 use Rattle.model.specs.declared.Interface.the-variants.{Spi, Uart}
-use Rattle.model.specs.declared.Refusal.the-variants.{Short, Busy, Unawaited}
 use Rattle.model.specs.declared.Place.{Place}
 use Rattle.model.specs.declared.Place.the-variants.{Nowhere, Piece}
 use Rattle.model.specs.declared.Phase.the-variants.{Begun, Counting, Waking}
-use Rattle.model.specs.declared.Calibration.{Calibration}
 use Rattle.model.specs.declared.Calibration.the-variants.{Off, On}
 use Rattle.model.specs.declared.State.{State}
 use Rattle.model.specs.declared.State.the-variants.{PowerUp, Ready, Selected, Waiting, Lost}
 use Rattle.model.specs.declared.Session.{Session}
-use Rattle.model.specs.declared.Answer.{Answer}
-use Rattle.model.specs.declared.Answer.the-variants.{More, Good, Reference}
 use Rattle.model.specs.declared.Outcome.{Outcome}
-use Rattle.model.specs.Refusals.{numberOf, valuesOf}
 use Rattle.model.specs.Replies.{at}
 use Rattle.model.specs.Calibration.{search}
 use Rattle.model.specs.Session.{made, Call, power-on, pulse, reset, calibrate, next, feed, step}
-use Rattle.cases.specs.Awaiting.{toIdle, woke}
+use Rattle.cases.specs.Awaiting.{toIdle, toldBy}
 use Rattle.cases.specs.Starred.{room}
 use Rattle.cases.specs.Sessions.{after, selected, tag, timeout}
 use Rattle.cases.specs.Planned.{planned}
@@ -70,7 +64,7 @@ pub record GoesOn (i : Interface) : Type 0 where
 
 -- ---- how it ends
 
--- the session, the answer, what was consumed and where the event is
+-- the session; of the answer a refusal's number and values, or a reference behind a 0; what was consumed; and where the event is
 pub record Ended : Type 0 where
   pub session : Session
   pub told : List ℕ
@@ -79,15 +73,6 @@ pub record Ended : Type 0 where
 
 abbrev pub ended : Session → List ℕ → ℕ → Place → Ended
 ended s told used place = record { session = s; told = told; used = used; place = place }
-
--- a refusal's number and its values, a reference behind 0, nothing of another answer
-abbrev pub toldBy : Answer → List ℕ
-toldBy Answer.Done = []
-toldBy (Answer.Sent n) = []
-toldBy Answer.More = []
-toldBy Answer.Good = []
-toldBy (Answer.Reference reference commands) = 0 ∷ reference ∷ commands ∷ []
-toldBy (Answer.Refused k) = numberOf k ∷ valuesOf k
 
 abbrev pub endedBy : Outcome → Ended
 endedBy o = ended (o .session) (toldBy (o .answer)) (o .used) (o .place)

@@ -1,8 +1,8 @@
 -- Document 01, "Command frames": frames whose bytes all differ, written and read back, and what the reader refuses beside them.
 -- Assumes nothing.
-use Prim.Native.Nat.{ℕ, suc, _+_}
+use Prim.Native.Nat.{ℕ}
 use mathlib.Core.Path.{_≡_}
-use mathlib.Core.Bool.{Bool, true, false, not}
+use mathlib.Core.Bool.{true, false}
 use mathlib.Core.List.{List, [], _∷_, _++_, map}
 use lib.ListN.{replicate}
 use Rattle.model.specs.declared.Interface.the-variants.{Spi, Uart}
@@ -10,8 +10,7 @@ use Rattle.model.specs.declared.Settings.{Settings}
 use Rattle.model.specs.declared.Refusal.the-variants.{Short, Invalid}
 use Rattle.model.specs.declared.Written.{Written}
 use Rattle.model.specs.declared.Written.the-variants.{Sent}
-use Rattle.model.specs.Contract.{Ran}
-use Rattle.model.specs.Frames.{Command, idn, protocolSelect, sendRecv, idle, echo, frame, sourceAllowed, settingsAllowed, allowed, Transfer, send, reset, poll, read, bytes, permitted, write, received, flags, settings, readCommand, noFrame}
+use Rattle.model.specs.Frames.{Command, idn, protocolSelect, sendRecv, idle, echo, sourceAllowed, settingsAllowed, allowed, send, reset, poll, read, bytes, permitted, write, received, flags, settings, readCommand, noFrame}
 use Rattle.cases.specs.Awaiting.{commandOf, partOf}
 use Rattle.cases.specs.Replies.{those}
 use Rattle.cases.specs.Published.{ran}

@@ -2,7 +2,6 @@
 -- Assumes nothing.
 use Prim.Native.Nat.{ℕ}
 use mathlib.Core.Path.{_≡_}
-use mathlib.Core.Bool.{Bool}
 use mathlib.Core.List.{List, [], _∷_, _++_, map}
 use lib.Dec.{leb}
 use lib.ListN.{replicate}
@@ -14,12 +13,12 @@ use Rattle.model.specs.declared.Answer.{Answer}
 use Rattle.model.specs.declared.Answer.the-variants.{Done, Sent, More, Good, Reference, Refused}
 use Rattle.model.specs.Frames.{idn, echo}
 use Rattle.model.specs.Session.{Call, power-on, pulse, request, reset, poll, read, calibrate, next, feed, unpowered}
-use Rattle.model.specs.History.{Event, Exchange, exchange, exchanges, Latest, nothing, since, latest, commands, Said, tag, timeout, error, Told, told, answers}
+use Rattle.model.specs.History.{Event, Exchange, exchange, exchanges, Latest, nothing, since, latest, commands, tag, timeout, error, Told, told, answers}
 use Rattle.model.specs.Talk.{calibrated, last}
-use Rattle.cases.specs.Awaiting.{toIdn, toIdle, toEcho, woke}
+use Rattle.cases.specs.Awaiting.{toIdn, toIdle, toEcho}
 use Rattle.cases.specs.Starred.{room, singly}
 use Rattle.cases.specs.Sessions.{after}
-use Rattle.cases.specs.Planned.{planned}
+use Rattle.cases.specs.Planned.{planned, begins}
 use Rattle.cases.specs.Refusing.{narrow}
 
 -- ---- readings
@@ -40,12 +39,9 @@ readOff i calls =
 
 -- ---- a calibration with p = 3
 
-abbrev pub begun : List Call
-begun = pulse ∷ calibrate (planned 3) room ∷ []
-
 -- two answers, one with a byte behind it and one cut in two; the third command waits
 abbrev pub third : List Call
-third = begun ++ feed (0x00 ∷ 0x01 ∷ 0x02 ∷ 0x99 ∷ []) room ∷ next room ∷ feed (0x00 ∷ []) room ∷ feed (0x01 ∷ 0x01 ∷ []) room ∷ next room ∷ []
+third = begins ++ feed (0x00 ∷ 0x01 ∷ 0x02 ∷ 0x99 ∷ []) room ∷ next room ∷ feed (0x00 ∷ []) room ∷ feed (0x01 ∷ 0x01 ∷ []) room ∷ next room ∷ []
 
 -- calls between that are refused or give nothing out: none of them is a command or a piece; 55 arrives where nothing is awaited
 abbrev pub disturbed : List Call
@@ -56,7 +52,7 @@ disturbed =
 
 pub record Read (i : Interface) : Type 0 where
   pub none : readOff i (pulse ∷ []) ≡ readings [] 0 [] nothing
-  pub first : readOff i begun ≡ readings (exchange 0xC3 0x00 [] ∷ []) 1 [] (since (toIdle 0xC3) [] 0)
+  pub first : readOff i begins ≡ readings (exchange 0xC3 0x00 [] ∷ []) 1 [] (since (toIdle 0xC3) [] 0)
   pub in-the-third :
       readOff i third ≡
       readings (exchange 0xC3 0x7C [] ∷ exchange 0xC3 0xFC (0x00 ∷ 0x01 ∷ 0x01 ∷ []) ∷ exchange 0xC3 0x00 (0x00 ∷ 0x01 ∷ 0x02 ∷ 0x99 ∷ []) ∷ []) 3
@@ -68,14 +64,14 @@ pub record Read (i : Interface) : Type 0 where
       exchange 0xC3 0x00 (0x00 ∷ 0x01 ∷ 0x02 ∷ 0x99 ∷ []) ∷ []) 3
       (told 0x7C tag ∷ told 0xFC timeout ∷ told 0x00 tag ∷ []) (since (toIdle 0xC3) (0x00 ∷ 0x01 ∷ 0x02 ∷ 0x97 ∷ []) 3)
   pub error-code :
-      readOff i (begun ++ feed (0x8D ∷ []) room ∷ feed (0x00 ∷ 0x96 ∷ []) room ∷ []) ≡
+      readOff i (begins ++ feed (0x8D ∷ []) room ∷ feed (0x00 ∷ 0x96 ∷ []) room ∷ []) ≡
       readings (exchange 0xC3 0x00 (0x8D ∷ 0x00 ∷ 0x96 ∷ []) ∷ []) 1 (told 0x00 (error 0x8D) ∷ []) (since (toIdle 0xC3) (0x8D ∷ 0x00 ∷ 0x96 ∷ []) 2)
   -- no answer: it is malformed, or not whole
   pub malformed-byte :
-      readOff i (begun ++ feed (0x00 ∷ 0x02 ∷ 0x95 ∷ []) room ∷ []) ≡
+      readOff i (begins ++ feed (0x00 ∷ 0x02 ∷ 0x95 ∷ []) room ∷ []) ≡
       readings (exchange 0xC3 0x00 (0x00 ∷ 0x02 ∷ 0x95 ∷ []) ∷ []) 1 [] (since (toIdle 0xC3) (0x00 ∷ 0x02 ∷ 0x95 ∷ []) 2)
   pub not-whole :
-      readOff i (begun ++ feed (0x00 ∷ 0x01 ∷ []) room ∷ []) ≡
+      readOff i (begins ++ feed (0x00 ∷ 0x01 ∷ []) room ∷ []) ≡
       readings (exchange 0xC3 0x00 (0x00 ∷ 0x01 ∷ []) ∷ []) 1 [] (since (toIdle 0xC3) (0x00 ∷ 0x01 ∷ []) 2)
   pub among-others :
       readOff i disturbed ≡
@@ -83,7 +79,7 @@ pub record Read (i : Interface) : Type 0 where
       (since (toIdle 0xC3) (0x00 ∷ 0x01 ∷ 0x02 ∷ 0x98 ∷ 0x55 ∷ []) 3)
   -- a calibration that ended, a request after it, and another start, with p = 1
   pub ended :
-      readOff i (begun ++ feed (0x00 ∷ 0x01 ∷ 0x01 ∷ []) room ∷ request echo room ∷ feed (0x55 ∷ 0x94 ∷ []) room ∷ []) ≡
+      readOff i (begins ++ feed (0x00 ∷ 0x01 ∷ 0x01 ∷ []) room ∷ request echo room ∷ feed (0x55 ∷ 0x94 ∷ []) room ∷ []) ≡
       readings (exchange 0xC3 0x00 (0x00 ∷ 0x01 ∷ 0x01 ∷ 0x55 ∷ 0x94 ∷ []) ∷ []) 1 (told 0x00 timeout ∷ []) (since toEcho (0x55 ∷ 0x94 ∷ []) 1)
   pub again :
       readOff i (third ++ feed (0x82 ∷ 0x00 ∷ []) room ∷ calibrate (planned 1) room ∷ feed (0x00 ∷ []) room ∷ []) ≡
@@ -96,7 +92,7 @@ pub record ByReset : Type 0 where
   -- over SPI a reset ends it, over UART it is refused
   pub spi : readOff Spi (third ++ reset room ∷ feed (0x00 ∷ []) room ∷ []) ≡ readings [] 0 [] nothing
   pub uart :
-      readOff Uart (begun ++ reset room ∷ feed (0x00 ∷ []) room ∷ []) ≡
+      readOff Uart (begins ++ reset room ∷ feed (0x00 ∷ []) room ∷ []) ≡
       readings (exchange 0xC3 0x00 (0x00 ∷ []) ∷ []) 1 [] (since (toIdle 0xC3) (0x00 ∷ []) 1)
 
 abbrev pub EveryReading : Type 0

@@ -6,7 +6,7 @@ use Prim.Native.String.{String, [] as nothing, _∷_ as _then_}
 use mathlib.Core.Path.{_≡_}
 use mathlib.Core.List.{List, [], _∷_, _++_, map}
 use lib.Dec.{eqb}
-use lib.ListN.{replicate}
+use lib.ListN.{getD, replicate}
 use Rattle.model.specs.declared.Interface.{Interface}
 use Rattle.model.specs.declared.Interface.the-variants.{Spi, Uart}
 use Rattle.model.specs.declared.Calibration.the-variants.{On}
@@ -15,10 +15,10 @@ use Rattle.model.specs.declared.State.the-variants.{PowerUp, Ready, Selected, L
 use Rattle.model.specs.declared.Session.{Session}
 use Rattle.model.specs.declared.Answer.{Answer}
 use Rattle.model.specs.Words.{pick}
-use Rattle.model.specs.Refusals.{numberOf}
 use Rattle.model.specs.Frames.{idn, protocolSelect, sendRecv, idle, echo}
 use Rattle.model.specs.Calibration.{search}
 use Rattle.model.specs.Session.{made, Call, pulse, request, reset, poll, read, calibrate, next, feed, step}
+use Rattle.cases.specs.Awaiting.{toldBy}
 use Rattle.cases.specs.Starred.{room}
 use Rattle.cases.specs.Sessions.{after, selects, selected, lost, tag}
 use Rattle.cases.specs.Framing.{levelled}
@@ -33,12 +33,7 @@ entries (letter then letters) = pick (eqb (code letter) 32) (entries letters) ((
 
 -- the number of a refusal, 0 for any other answer
 abbrev pub number : Answer → ℕ
-number Answer.Done = 0
-number (Answer.Sent n) = 0
-number Answer.More = 0
-number Answer.Good = 0
-number (Answer.Reference reference commands) = 0
-number (Answer.Refused k) = numberOf k
+number a = getD (toldBy a) 0 0
 
 -- ---- the columns
 

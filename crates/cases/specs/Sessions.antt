@@ -16,7 +16,7 @@ use Rattle.model.specs.declared.Answer.{Answer}
 use Rattle.model.specs.declared.Answer.the-variants.{Done, Sent, More, Good, Reference, Refused}
 use Rattle.model.specs.Frames.{idn, protocolSelect, sendRecv, idle, echo}
 use Rattle.model.specs.Replies.{begun}
-use Rattle.model.specs.Session.{made, isSelected, protocolOf, Call, power-on, pulse, request, reset, poll, read, calibrate, next, feed, unpowered}
+use Rattle.model.specs.Session.{made, isOff, protocolOf, isSelected, Call, power-on, pulse, request, reset, poll, read, calibrate, next, feed, unpowered}
 use Rattle.model.specs.History.{Event, Reached, run, on, isSent}
 use Rattle.cases.specs.Awaiting.{toEcho, woke}
 use Rattle.cases.specs.Starred.{plan, calibrating, room}
@@ -158,9 +158,10 @@ Calibrations =
 
 -- ---- states
 
--- Selected is the one state with a protocol
+-- Selected is the one state with a protocol; Power-up and Lost take no request
 pub record Selecting : Type 0 where
   pub is-selected : map isSelected (PowerUp ∷ Ready ∷ Selected 1 ∷ Waiting (begun toEcho) 1 ∷ Lost ∷ []) ≡ false ∷ false ∷ true ∷ false ∷ false ∷ []
+  pub off : map isOff (PowerUp ∷ Ready ∷ Selected 1 ∷ Waiting (begun toEcho) 1 ∷ Lost ∷ []) ≡ true ∷ false ∷ false ∷ false ∷ true ∷ []
   pub protocol : map protocolOf (PowerUp ∷ Ready ∷ Selected 3 ∷ Waiting (begun toEcho) 3 ∷ Lost ∷ []) ≡ 0 ∷ 0 ∷ 3 ∷ 0 ∷ 0 ∷ []
 
 -- power-on and a pulse are taken everywhere; the pulse leads from Power-up to Ready and changes nothing else

@@ -2,30 +2,19 @@
 -- Assumes nothing.
 use Prim.Native.Nat.{ℕ}
 use mathlib.Core.Path.{_≡_}
-use mathlib.Core.Bool.{Bool, true, false, not}
+use mathlib.Core.Bool.{true, not}
 use mathlib.Core.List.{List, [], _∷_, _++_, map}
 use Rattle.model.specs.declared.Awaited.{Awaited}
-use Rattle.model.specs.declared.Verdict.{Verdict}
-use Rattle.model.specs.declared.Verdict.the-variants.{More, Good, Error, Malformed, NoRoom}
-use Rattle.model.specs.Replies.{Meaning, meaning, reply}
-use Rattle.cases.specs.Awaiting.{toIdn, toSelect, toSend, toIdle, toEcho, waking}
-use Rattle.cases.specs.Replies.{those, malformed}
+use Rattle.model.specs.declared.Verdict.the-variants.{More, Good, Error}
+use Rattle.model.specs.Replies.{Reply, meaning, reply}
+use Rattle.cases.specs.Awaiting.{toIdn, toSelect, toSend, toIdle, toEcho, waking, isMalformed}
+use Rattle.cases.specs.Replies.{those, codes, malformed}
 
 -- ---- every byte at each place
-
-abbrev pub isMalformed : Verdict → Bool
-isMalformed More = false
-isMalformed Good = false
-isMalformed (Error code) = false
-isMalformed Malformed = true
-isMalformed NoRoom = false
 
 -- the bytes that a reply to the awaited command can have behind others
 abbrev pub behind : Awaited → List ℕ → List ℕ
 behind a xs = those (λ (b : ℕ). not (isMalformed (reply a (xs ++ b ∷ []) .verdict))) 256 []
-
-abbrev pub codes : List ℕ
-codes = 0x82 ∷ 0x83 ∷ 0x85 ∷ 0x86 ∷ 0x87 ∷ 0x88 ∷ 0x89 ∷ 0x8A ∷ 0x8B ∷ 0x8C ∷ 0x8D ∷ 0x8E ∷ 0x8F ∷ []
 
 pub record Bytes : Type 0 where
   pub first :
@@ -52,11 +41,21 @@ pub record Bytes : Type 0 where
       0x00 ∷ 0x04 ∷ 0x20 ∷ 0x24 ∷ 0x40 ∷ 0x44 ∷ 0x60 ∷ 0x64 ∷ 0x80 ∷ 0x84 ∷ 0xA0 ∷ 0xA4 ∷ 0xC0 ∷ 0xC4 ∷ 0xE0 ∷ 0xE4 ∷ []
   pub sourceless-error : behind (toIdle 0xE4) [] ≡ codes
 
--- ---- how many bytes are taken
+-- ---- replies as the relation has them
 
 -- 15 bytes of IDN, no two alike
 abbrev pub fifteen : List ℕ
 fifteen = 0x31 ∷ 0x32 ∷ 0x33 ∷ 0x34 ∷ 0x35 ∷ 0x36 ∷ 0x37 ∷ 0x38 ∷ 0x39 ∷ 0x3A ∷ 0x3B ∷ 0x3C ∷ 0x3D ∷ 0x3E ∷ 0x3F ∷ []
+
+pub record Related : Type 0 where
+  pub to-idn : Reply toIdn (0x00 ∷ 0x0F ∷ fifteen) Good fifteen
+  pub to-select : Reply (toSelect 3) (0x00 ∷ 0x00 ∷ []) Good []
+  pub to-send : Reply toSend (0x80 ∷ 0x03 ∷ 0xC1 ∷ 0xC2 ∷ 0xC3 ∷ []) Good (0xC1 ∷ 0xC2 ∷ 0xC3 ∷ [])
+  pub to-idle : Reply (toIdle 0xDB) (0x00 ∷ 0x01 ∷ 0x08 ∷ []) (waking 0x08) (0x08 ∷ [])
+  pub to-echo : Reply toEcho (0x55 ∷ []) Good []
+  pub error : Reply toSend (0x8E ∷ 0x00 ∷ []) (Error 0x8E) []
+
+-- ---- how many bytes are taken
 
 pub record Taken : Type 0 where
   -- through the last byte of the reply, whatever follows

@@ -14,21 +14,21 @@ use Rattle.cases.specs.Planned.{begins}
 use Rattle.cases.specs.Refusing.{calls, fits, short, narrow}
 
 -- the buffer that a call is lent
-abbrev pub lent : Call → List ℕ
-lent (power-on i) = []
-lent pulse = []
-lent (request c out) = out
-lent (reset out) = out
-lent (poll out) = out
-lent (read n out) = out
-lent (calibrate plan out) = out
-lent (next out) = out
-lent (feed piece room) = room
+abbrev pub bufferOf : Call → List ℕ
+bufferOf (power-on i) = []
+bufferOf pulse = []
+bufferOf (request c out) = out
+bufferOf (reset out) = out
+bufferOf (poll out) = out
+bufferOf (read n out) = out
+bufferOf (calibrate plan out) = out
+bufferOf (next out) = out
+bufferOf (feed piece room) = room
 
 -- in a session where every call but the empty piece is refused, all 23 leave session and buffer as they were, and consume nothing
 pub record Untouched (s : Session) (calls : List Call) : Type 0 where
   pub session : map (λ (c : Call). step s c .answer .session) calls ≡ replicate 23 s
-  pub buffer : map (λ (c : Call). step s c .bytes) calls ≡ map lent calls
+  pub buffer : map (λ (c : Call). step s c .bytes) calls ≡ map bufferOf calls
   pub used : map (λ (c : Call). step s c .answer .used) calls ≡ replicate 23 0
   pub place : map (λ (c : Call). step s c .answer .place) calls ≡ replicate 23 Nowhere
 
