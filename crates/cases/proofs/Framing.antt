@@ -1,7 +1,7 @@
 -- Frames written and read back, by computation.
 -- Assumes nothing.
 use mathlib.Core.Path.{refl}
-use Rattle.cases.specs.Framing.{Framed, RefusedBeside, RefusedCodes, Sources, Levels, Fields, Written-bytes, Back}
+use Rattle.cases.specs.Framing.{Framed, RefusedBeside, RefusedCodes, Sources, Prescaled, Levels, Fields, Written-bytes, Back}
 
 pub framed : Framed
 framed = record { uart = refl; spi = refl; back = refl; parts = refl; gathered = refl; missing = refl }
@@ -14,6 +14,9 @@ refused-codes = refl
 
 pub sources : Sources
 sources = refl
+
+pub prescaled : Prescaled
+prescaled = refl
 
 pub levels : Levels
 levels = refl
@@ -35,4 +38,4 @@ written =
     }
 
 pub back : Back
-back = record { dropped = refl; can-read = refl; can-send = refl; above = refl; above-too = refl }
+back = record { dropped = refl; can-read = refl; can-send = refl; can-read-of-all = refl; can-send-of-all = refl }

@@ -1,8 +1,11 @@
 -- The table of refusals, by computation.
 -- Assumes nothing.
 use mathlib.Core.Path.{refl}
-use Rattle.cases.specs.Refusing.{Enough, Short, Strange}
+use Rattle.cases.specs.Refusing.{States, Enough, Short, Strange}
 use Rattle.cases.specs.Untouched.{Unchanged}
+
+pub states : States
+states = refl
 
 pub enough : Enough
 enough = record { uart = refl; spi = refl }

@@ -1,16 +1,17 @@
 -- Document 01, "Command frames": frames whose bytes all differ, written and read back, and what the reader refuses beside them.
 -- Assumes nothing.
-use Prim.Native.Nat.{ℕ}
+use Prim.Native.Nat.{ℕ, _+_, _*_, _%_}
 use mathlib.Core.Path.{_≡_}
-use mathlib.Core.Bool.{true, false}
+use mathlib.Core.Bool.{true, false, _&&_}
 use mathlib.Core.List.{List, [], _∷_, _++_, map}
+use lib.Dec.{ltb, leb, eqb}
 use lib.ListN.{replicate}
 use Rattle.model.specs.declared.Interface.the-variants.{Spi, Uart}
 use Rattle.model.specs.declared.Settings.{Settings}
 use Rattle.model.specs.declared.Refusal.the-variants.{Short, Invalid}
 use Rattle.model.specs.declared.Written.{Written}
 use Rattle.model.specs.declared.Written.the-variants.{Sent}
-use Rattle.model.specs.Frames.{Command, idn, protocolSelect, sendRecv, idle, echo, sourceAllowed, settingsAllowed, allowed, send, reset, poll, read, bytes, permitted, write, received, flags, settings, readCommand, noFrame}
+use Rattle.model.specs.Frames.{Command, idn, protocolSelect, sendRecv, idle, echo, prescaler, sourceAllowed, settingsAllowed, allowed, send, reset, poll, read, bytes, permitted, write, received, flags, settings, readCommand, noFrame}
 use Rattle.cases.specs.Awaiting.{commandOf, partOf}
 use Rattle.cases.specs.Replies.{those}
 use Rattle.cases.specs.Published.{ran}
@@ -111,6 +112,12 @@ Sources =
     0x81 ∷ 0x82 ∷ 0x83 ∷ 0x88 ∷ 0x89 ∷ 0x8A ∷ 0x8B ∷ 0x90 ∷ 0x91 ∷ 0x92 ∷ 0x93 ∷ 0x98 ∷ 0x99 ∷ 0x9A ∷ 0x9B ∷
     0xC1 ∷ 0xC2 ∷ 0xC3 ∷ 0xC8 ∷ 0xC9 ∷ 0xCA ∷ 0xCB ∷ 0xD0 ∷ 0xD1 ∷ 0xD2 ∷ 0xD3 ∷ 0xD8 ∷ 0xD9 ∷ 0xDA ∷ 0xDB ∷ []
 
+-- each prescaler has the 64 sources from 64 times it on
+abbrev pub Prescaled : Type 0
+Prescaled =
+    map (λ (p : ℕ). those (λ (source : ℕ). eqb (prescaler source) p) 256 []) (0 ∷ 1 ∷ 2 ∷ 3 ∷ []) ≡
+    map (λ (p : ℕ). those (λ (source : ℕ). leb (64 * p) source && ltb source (64 * p + 64)) 256 []) (0 ∷ 1 ∷ 2 ∷ 3 ∷ [])
+
 -- a WU source with DacDataL and DacDataH, the other bytes as above
 abbrev pub levelled : ℕ → ℕ → ℕ → Settings
 levelled source low high =
@@ -172,14 +179,13 @@ pub record Written-bytes : Type 0 where
 
 pub record Back : Type 0 where
   pub dropped : map received ((0xC0 ∷ 0xC1 ∷ 0xC2 ∷ []) ∷ (0xC0 ∷ []) ∷ [] ∷ []) ≡ (0xC1 ∷ 0xC2 ∷ []) ∷ [] ∷ [] ∷ []
-  -- bit 3 and bit 2, of the first 32 flags bytes; the bits above them mean nothing
+  -- bit 3 and bit 2 of the first 32 flags bytes
   pub can-read :
       those (λ (b : ℕ). flags b .read) 32 [] ≡
       0x08 ∷ 0x09 ∷ 0x0A ∷ 0x0B ∷ 0x0C ∷ 0x0D ∷ 0x0E ∷ 0x0F ∷ 0x18 ∷ 0x19 ∷ 0x1A ∷ 0x1B ∷ 0x1C ∷ 0x1D ∷ 0x1E ∷ 0x1F ∷ []
   pub can-send :
       those (λ (b : ℕ). flags b .send) 32 [] ≡
       0x04 ∷ 0x05 ∷ 0x06 ∷ 0x07 ∷ 0x0C ∷ 0x0D ∷ 0x0E ∷ 0x0F ∷ 0x14 ∷ 0x15 ∷ 0x16 ∷ 0x17 ∷ 0x1C ∷ 0x1D ∷ 0x1E ∷ 0x1F ∷ []
-  pub above :
-      map (λ (b : ℕ). flags b .read) (0x20 ∷ 0x40 ∷ 0x80 ∷ 0xF3 ∷ 0xF7 ∷ 0xFB ∷ 0xFF ∷ []) ≡ false ∷ false ∷ false ∷ false ∷ false ∷ true ∷ true ∷ []
-  pub above-too :
-      map (λ (b : ℕ). flags b .send) (0x20 ∷ 0x40 ∷ 0x80 ∷ 0xF3 ∷ 0xF7 ∷ 0xFB ∷ 0xFF ∷ []) ≡ false ∷ false ∷ false ∷ false ∷ true ∷ false ∷ true ∷ []
+  -- and of all 256: bit 3 is set where the remainder by 16 is at least 8, bit 2 where that by 8 is at least 4
+  pub can-read-of-all : those (λ (b : ℕ). flags b .read) 256 [] ≡ those (λ (b : ℕ). leb 8 (b % 16)) 256 []
+  pub can-send-of-all : those (λ (b : ℕ). flags b .send) 256 [] ≡ those (λ (b : ℕ). leb 4 (b % 8)) 256 []

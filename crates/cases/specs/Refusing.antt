@@ -11,14 +11,15 @@ use Rattle.model.specs.declared.Interface.{Interface}
 use Rattle.model.specs.declared.Interface.the-variants.{Spi, Uart}
 use Rattle.model.specs.declared.Calibration.the-variants.{On}
 use Rattle.model.specs.declared.State.{State}
-use Rattle.model.specs.declared.State.the-variants.{PowerUp, Ready, Selected, Lost}
+use Rattle.model.specs.declared.State.the-variants.{PowerUp, Ready, Selected, Waiting, Lost}
 use Rattle.model.specs.declared.Session.{Session}
 use Rattle.model.specs.declared.Answer.{Answer}
 use Rattle.model.specs.Words.{pick}
 use Rattle.model.specs.Frames.{idn, protocolSelect, sendRecv, idle, echo}
+use Rattle.model.specs.Replies.{begun}
 use Rattle.model.specs.Calibration.{search}
 use Rattle.model.specs.Session.{made, Call, pulse, request, reset, poll, read, calibrate, next, feed, step}
-use Rattle.cases.specs.Awaiting.{toldBy}
+use Rattle.cases.specs.Awaiting.{toIdn, toSelect, toSend, toIdle, toEcho, toldBy}
 use Rattle.cases.specs.Starred.{room}
 use Rattle.cases.specs.Sessions.{after, selects, selected, lost, tag}
 use Rattle.cases.specs.Framing.{levelled}
@@ -87,136 +88,87 @@ sessions i =
     (pulse ∷ request (idle (levelled 0xDB 0x10 0x11)) room ∷ []) ∷ (selected 2 ++ request echo room ∷ []) ∷
     begins ∷ (begins ++ tag) ∷ (begins ++ tag ++ next room ∷ []) ∷ lost ∷ [])
 
+abbrev pub States : Type 0
+States =
+    map (λ (s : Session). s .state) (sessions Uart) ≡
+    PowerUp ∷ Ready ∷ Selected 1 ∷ Selected 2 ∷ Selected 4 ∷
+    Waiting (begun toIdn) 0 ∷ Waiting (begun (toSelect 1)) 0 ∷ Waiting (begun toSend) 1 ∷ Waiting (begun (toIdle 0xDB)) 0 ∷ Waiting (begun toEcho) 2 ∷
+    Waiting (begun (toIdle 0xC3)) 0 ∷ Ready ∷ Waiting (begun (toIdle 0xC3)) 0 ∷ Lost ∷ []
+
 -- ---- the table
 
 -- columns: idn echo, select, send, idle, calibrate, next, reset poll, read, feed. With buffers just long enough, over UART and over SPI
 pub record Enough : Type 0 where
   pub uart :
       map (row (fits Uart) room) (sessions Uart) ≡
-      -- Power-up
-      entries "33 3333 333 333 33 4 22 2222 06" ∷
-      -- Ready
-      entries "00 0222 333 022 02 4 22 2222 06" ∷
-      -- Selected 1
-      entries "00 0222 002 022 02 4 22 2222 06" ∷
-      -- Selected 2
-      entries "00 0222 202 022 02 4 22 2222 06" ∷
-      -- Selected 4
-      entries "00 0222 202 022 02 4 22 2222 06" ∷
-      -- Waiting for IDN
-      entries "44 4444 444 444 44 4 22 2222 05" ∷
-      -- Waiting for ProtocolSelect
-      entries "44 4444 444 444 44 4 22 2222 05" ∷
-      -- Waiting for SendRecv
-      entries "44 4444 444 444 44 4 22 2222 05" ∷
-      -- Waiting for Idle
-      entries "44 4444 444 444 44 4 22 2222 05" ∷
-      -- Waiting for Echo
-      entries "44 4444 444 444 44 4 22 2222 00" ∷
-      -- Waiting for a calibration's first answer
-      entries "44 4444 444 444 44 4 22 2222 05" ∷
-      -- Ready for its second command
-      entries "44 4444 444 444 44 0 22 2222 06" ∷
-      -- Waiting for its second answer
-      entries "44 4444 444 444 44 4 22 2222 05" ∷
-      -- Lost
-      entries "33 3333 333 333 33 4 22 2222 06" ∷
+      entries "33 3333 333 333 33 4 22 2222 06" ∷  -- Power-up
+      entries "00 0222 333 022 02 4 22 2222 06" ∷  -- Ready
+      entries "00 0222 002 022 02 4 22 2222 06" ∷  -- Selected 1
+      entries "00 0222 202 022 02 4 22 2222 06" ∷  -- Selected 2
+      entries "00 0222 202 022 02 4 22 2222 06" ∷  -- Selected 4
+      entries "44 4444 444 444 44 4 22 2222 05" ∷  -- Waiting for IDN
+      entries "44 4444 444 444 44 4 22 2222 05" ∷  -- Waiting for ProtocolSelect
+      entries "44 4444 444 444 44 4 22 2222 05" ∷  -- Waiting for SendRecv
+      entries "44 4444 444 444 44 4 22 2222 05" ∷  -- Waiting for Idle
+      entries "44 4444 444 444 44 4 22 2222 00" ∷  -- Waiting for Echo
+      entries "44 4444 444 444 44 4 22 2222 05" ∷  -- Waiting for a calibration's first answer
+      entries "44 4444 444 444 44 0 22 2222 06" ∷  -- Ready for its second command
+      entries "44 4444 444 444 44 4 22 2222 05" ∷  -- Waiting for its second answer
+      entries "33 3333 333 333 33 4 22 2222 06" ∷  -- Lost
       []
   pub spi :
       map (row (fits Spi) room) (sessions Spi) ≡
-      -- Power-up
-      entries "33 3333 333 333 33 4 00 2002 06" ∷
-      -- Ready
-      entries "00 0222 333 022 02 4 00 2002 06" ∷
-      -- Selected 1
-      entries "00 0222 002 022 02 4 00 2002 06" ∷
-      -- Selected 2
-      entries "00 0222 202 022 02 4 00 2002 06" ∷
-      -- Selected 4
-      entries "00 0222 202 022 02 4 00 2002 06" ∷
-      -- Waiting for IDN
-      entries "44 4444 444 444 44 4 00 2002 05" ∷
-      -- Waiting for ProtocolSelect
-      entries "44 4444 444 444 44 4 00 2002 05" ∷
-      -- Waiting for SendRecv
-      entries "44 4444 444 444 44 4 00 2002 05" ∷
-      -- Waiting for Idle
-      entries "44 4444 444 444 44 4 00 2002 05" ∷
-      -- Waiting for Echo
-      entries "44 4444 444 444 44 4 00 2002 00" ∷
-      -- Waiting for a calibration's first answer
-      entries "44 4444 444 444 44 4 00 2002 05" ∷
-      -- Ready for its second command
-      entries "44 4444 444 444 44 0 00 2002 06" ∷
-      -- Waiting for its second answer
-      entries "44 4444 444 444 44 4 00 2002 05" ∷
-      -- Lost
-      entries "33 3333 333 333 33 4 00 2002 06" ∷
+      entries "33 3333 333 333 33 4 00 2002 06" ∷  -- Power-up
+      entries "00 0222 333 022 02 4 00 2002 06" ∷  -- Ready
+      entries "00 0222 002 022 02 4 00 2002 06" ∷  -- Selected 1
+      entries "00 0222 202 022 02 4 00 2002 06" ∷  -- Selected 2
+      entries "00 0222 202 022 02 4 00 2002 06" ∷  -- Selected 4
+      entries "44 4444 444 444 44 4 00 2002 05" ∷  -- Waiting for IDN
+      entries "44 4444 444 444 44 4 00 2002 05" ∷  -- Waiting for ProtocolSelect
+      entries "44 4444 444 444 44 4 00 2002 05" ∷  -- Waiting for SendRecv
+      entries "44 4444 444 444 44 4 00 2002 05" ∷  -- Waiting for Idle
+      entries "44 4444 444 444 44 4 00 2002 00" ∷  -- Waiting for Echo
+      entries "44 4444 444 444 44 4 00 2002 05" ∷  -- Waiting for a calibration's first answer
+      entries "44 4444 444 444 44 0 00 2002 06" ∷  -- Ready for its second command
+      entries "44 4444 444 444 44 4 00 2002 05" ∷  -- Waiting for its second answer
+      entries "33 3333 333 333 33 4 00 2002 06" ∷  -- Lost
       []
 
 -- with buffers a byte too short: 1 comes behind 4, 3 and 2, and behind 6, but before any byte of a piece; an empty piece needs no room
 pub record Short : Type 0 where
   pub uart :
       map (row (short Uart) narrow) (sessions Uart) ≡
-      -- Power-up
-      entries "33 3333 333 333 33 4 22 2222 06" ∷
-      -- Ready
-      entries "11 1222 333 122 12 4 22 2222 06" ∷
-      -- Selected 1
-      entries "11 1222 112 122 12 4 22 2222 06" ∷
-      -- Selected 2
-      entries "11 1222 212 122 12 4 22 2222 06" ∷
-      -- Selected 4
-      entries "11 1222 212 122 12 4 22 2222 06" ∷
-      -- Waiting for IDN
-      entries "44 4444 444 444 44 4 22 2222 01" ∷
-      -- Waiting for ProtocolSelect
-      entries "44 4444 444 444 44 4 22 2222 01" ∷
-      -- Waiting for SendRecv
-      entries "44 4444 444 444 44 4 22 2222 01" ∷
-      -- Waiting for Idle
-      entries "44 4444 444 444 44 4 22 2222 01" ∷
-      -- Waiting for Echo
-      entries "44 4444 444 444 44 4 22 2222 01" ∷
-      -- Waiting for a calibration's first answer
-      entries "44 4444 444 444 44 4 22 2222 01" ∷
-      -- Ready for its second command
-      entries "44 4444 444 444 44 1 22 2222 06" ∷
-      -- Waiting for its second answer
-      entries "44 4444 444 444 44 4 22 2222 01" ∷
-      -- Lost
-      entries "33 3333 333 333 33 4 22 2222 06" ∷
+      entries "33 3333 333 333 33 4 22 2222 06" ∷  -- Power-up
+      entries "11 1222 333 122 12 4 22 2222 06" ∷  -- Ready
+      entries "11 1222 112 122 12 4 22 2222 06" ∷  -- Selected 1
+      entries "11 1222 212 122 12 4 22 2222 06" ∷  -- Selected 2
+      entries "11 1222 212 122 12 4 22 2222 06" ∷  -- Selected 4
+      entries "44 4444 444 444 44 4 22 2222 01" ∷  -- Waiting for IDN
+      entries "44 4444 444 444 44 4 22 2222 01" ∷  -- Waiting for ProtocolSelect
+      entries "44 4444 444 444 44 4 22 2222 01" ∷  -- Waiting for SendRecv
+      entries "44 4444 444 444 44 4 22 2222 01" ∷  -- Waiting for Idle
+      entries "44 4444 444 444 44 4 22 2222 01" ∷  -- Waiting for Echo
+      entries "44 4444 444 444 44 4 22 2222 01" ∷  -- Waiting for a calibration's first answer
+      entries "44 4444 444 444 44 1 22 2222 06" ∷  -- Ready for its second command
+      entries "44 4444 444 444 44 4 22 2222 01" ∷  -- Waiting for its second answer
+      entries "33 3333 333 333 33 4 22 2222 06" ∷  -- Lost
       []
   pub spi :
       map (row (short Spi) narrow) (sessions Spi) ≡
-      -- Power-up
-      entries "33 3333 333 333 33 4 11 2112 06" ∷
-      -- Ready
-      entries "11 1222 333 122 12 4 11 2112 06" ∷
-      -- Selected 1
-      entries "11 1222 112 122 12 4 11 2112 06" ∷
-      -- Selected 2
-      entries "11 1222 212 122 12 4 11 2112 06" ∷
-      -- Selected 4
-      entries "11 1222 212 122 12 4 11 2112 06" ∷
-      -- Waiting for IDN
-      entries "44 4444 444 444 44 4 11 2112 01" ∷
-      -- Waiting for ProtocolSelect
-      entries "44 4444 444 444 44 4 11 2112 01" ∷
-      -- Waiting for SendRecv
-      entries "44 4444 444 444 44 4 11 2112 01" ∷
-      -- Waiting for Idle
-      entries "44 4444 444 444 44 4 11 2112 01" ∷
-      -- Waiting for Echo
-      entries "44 4444 444 444 44 4 11 2112 01" ∷
-      -- Waiting for a calibration's first answer
-      entries "44 4444 444 444 44 4 11 2112 01" ∷
-      -- Ready for its second command
-      entries "44 4444 444 444 44 1 11 2112 06" ∷
-      -- Waiting for its second answer
-      entries "44 4444 444 444 44 4 11 2112 01" ∷
-      -- Lost
-      entries "33 3333 333 333 33 4 11 2112 06" ∷
+      entries "33 3333 333 333 33 4 11 2112 06" ∷  -- Power-up
+      entries "11 1222 333 122 12 4 11 2112 06" ∷  -- Ready
+      entries "11 1222 112 122 12 4 11 2112 06" ∷  -- Selected 1
+      entries "11 1222 212 122 12 4 11 2112 06" ∷  -- Selected 2
+      entries "11 1222 212 122 12 4 11 2112 06" ∷  -- Selected 4
+      entries "44 4444 444 444 44 4 11 2112 01" ∷  -- Waiting for IDN
+      entries "44 4444 444 444 44 4 11 2112 01" ∷  -- Waiting for ProtocolSelect
+      entries "44 4444 444 444 44 4 11 2112 01" ∷  -- Waiting for SendRecv
+      entries "44 4444 444 444 44 4 11 2112 01" ∷  -- Waiting for Idle
+      entries "44 4444 444 444 44 4 11 2112 01" ∷  -- Waiting for Echo
+      entries "44 4444 444 444 44 4 11 2112 01" ∷  -- Waiting for a calibration's first answer
+      entries "44 4444 444 444 44 1 11 2112 06" ∷  -- Ready for its second command
+      entries "44 4444 444 444 44 4 11 2112 01" ∷  -- Waiting for its second answer
+      entries "33 3333 333 333 33 4 11 2112 06" ∷  -- Lost
       []
 
 -- records that no call made, with a calibration that runs in Power-up, Selected 2 and Lost, and in Ready after its eighth command
