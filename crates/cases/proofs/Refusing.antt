@@ -2,7 +2,7 @@
 -- Assumes nothing.
 use mathlib.Core.Path.{refl}
 use Rattle.cases.specs.Refusing.{States, Enough, Short, Strange}
-use Rattle.cases.specs.Untouched.{Unchanged}
+use Rattle.cases.specs.Unchanged.{Unchanged}
 
 pub states : States
 states = refl

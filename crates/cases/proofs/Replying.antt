@@ -7,7 +7,7 @@ use mathlib.Core.List.{[], _∷_}
 use Rattle.model.specs.declared.Awaited.{Awaited}
 use Rattle.model.specs.Replies.{Reply, Reply.idn, Reply.protocolSelect, Reply.sendRecv, Reply.idle, Reply.echo, Reply.error}
 use Rattle.cases.specs.Awaiting.{toSend, toEcho}
-use Rattle.cases.specs.Tabled.{Bytes, Related, Taken, fifteen}
+use Rattle.cases.specs.ByBytes.{Bytes, Related, Taken, fifteen}
 use Rattle.cases.specs.Replying.{EveryState, EveryCut, EveryBeginning, Rooms}
 
 pub bytes : Bytes

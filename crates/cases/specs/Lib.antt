@@ -9,8 +9,8 @@ pub mod Planned
 pub mod Timed
 pub mod Bands
 pub mod Refusing
-pub mod Untouched
-pub mod Tabled
+pub mod Unchanged
+pub mod ByBytes
 pub mod Replying
 pub mod Ending
 pub mod Histories

@@ -22,7 +22,7 @@ use Rattle.model.specs.Session.{Call, pulse, request, feed, step}
 use Rattle.cases.specs.Awaiting.{toIdn, toSelect, toSend, toIdle, woke}
 use Rattle.cases.specs.Sessions.{after, selected}
 use Rattle.cases.specs.Framing.{levelled}
-use Rattle.cases.specs.Tabled.{fifteen}
+use Rattle.cases.specs.ByBytes.{fifteen}
 
 -- ---- what a piece leaves
 

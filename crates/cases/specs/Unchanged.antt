@@ -26,7 +26,7 @@ bufferOf (next out) = out
 bufferOf (feed piece room) = room
 
 -- in a session where every call but the empty piece is refused, all 23 leave session and buffer as they were, and consume nothing
-pub record Untouched (s : Session) (calls : List Call) : Type 0 where
+pub record Kept (s : Session) (calls : List Call) : Type 0 where
   pub session : map (λ (c : Call). step s c .answer .session) calls ≡ replicate 23 s
   pub buffer : map (λ (c : Call). step s c .bytes) calls ≡ map bufferOf calls
   pub used : map (λ (c : Call). step s c .answer .used) calls ≡ replicate 23 0
@@ -35,5 +35,5 @@ pub record Untouched (s : Session) (calls : List Call) : Type 0 where
 -- Waiting in a calibration, over SPI with buffers a byte too short; and Lost, over UART with buffers long enough
 abbrev pub Unchanged : Type 0
 Unchanged =
-    Untouched (after Spi (begins ++ tag ++ next room ∷ []) .session) (calls (short Spi) narrow) ×
-    Untouched (after Uart lost .session) (calls (fits Uart) room)
+    Kept (after Spi (begins ++ tag ++ next room ∷ []) .session) (calls (short Spi) narrow) ×
+    Kept (after Uart lost .session) (calls (fits Uart) room)
