@@ -9,9 +9,10 @@ use lib.ListN.{replicate}
 use Rattle.model.specs.declared.Interface.the-variants.{Spi, Uart}
 use Rattle.model.specs.declared.Settings.{Settings}
 use Rattle.model.specs.declared.Refusal.the-variants.{Short, Invalid}
+use Rattle.model.specs.declared.Reading.{Reading}
 use Rattle.model.specs.declared.Written.{Written}
 use Rattle.model.specs.declared.Written.the-variants.{Sent}
-use Rattle.model.specs.Frames.{Command, idn, protocolSelect, sendRecv, idle, echo, prescaler, sourceAllowed, settingsAllowed, allowed, send, reset, poll, read, bytes, permitted, write, received, flags, settings, readCommand, noFrame}
+use Rattle.model.specs.Frames.{Command, idn, protocolSelect, sendRecv, idle, echo, prescaler, sourceAllowed, settingsAllowed, allowed, send, reset, poll, read, bytes, permitted, write, received, flags, settings, readCommand}
 use Rattle.cases.specs.Awaiting.{commandOf, partOf}
 use Rattle.cases.specs.Replies.{those}
 use Rattle.cases.specs.Published.{ran}
@@ -92,14 +93,14 @@ RefusedBeside =
     (0x07 ∷ 0x0D ∷ 0x01 ∷ replicate 12 0x00) ∷ (0x07 ∷ 0x0F ∷ 0x01 ∷ replicate 14 0x00) ∷ (0x07 ∷ 0x00 ∷ []) ∷ (0x01 ∷ 0x0E ∷ distinctData) ∷
     -- 55 is a frame by itself alone, and no other byte is
     (0x54 ∷ []) ∷ (0x56 ∷ []) ∷ (0x00 ∷ []) ∷ (0xFF ∷ []) ∷ [])
-    ≡ replicate 26 noFrame
+    ≡ replicate 26 (Reading.Refused Invalid)
 
 -- the data of each command behind another code
 abbrev pub RefusedCodes : Type 0
 RefusedCodes =
     map readCommand (
     behind strangeCodes (0x00 ∷ []) ++ behind strangeCodes (0x03 ∷ 0x03 ∷ 0x91 ∷ 0x92 ∷ []) ++ behind strangeCodes (0x0E ∷ distinctData))
-    ≡ replicate 30 noFrame
+    ≡ replicate 30 (Reading.Refused Invalid)
 
 -- ---- the field rules
 

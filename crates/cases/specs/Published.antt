@@ -18,7 +18,7 @@ use Rattle.model.specs.declared.Waiting.{Waiting}
 use Rattle.model.specs.declared.Timing.{Timing}
 use Rattle.model.specs.Contract.{Ran}
 use Rattle.model.specs.Refusals.{numberOf, valuesOf}
-use Rattle.model.specs.Frames.{Command, idn, protocolSelect, sendRecv, idle, echo, frame, prescaler, Transfer, send, reset, poll, read, bytes, write, received, readCommand, noFrame}
+use Rattle.model.specs.Frames.{Command, idn, protocolSelect, sendRecv, idle, echo, frame, prescaler, Transfer, send, reset, poll, read, bytes, write, received, readCommand}
 use Rattle.model.specs.Checks.{isMild}
 use Rattle.model.specs.Times.{timesOf, waitOf}
 use Rattle.cases.specs.Awaiting.{sleeping}
@@ -90,7 +90,7 @@ Refused =
     -- 002 prints this one a byte short
     (0x07 ∷ 0x0E ∷ 0x08 ∷ 0x04 ∷ 0x00 ∷ 0x04 ∷ 0x00 ∷ 0x18 ∷ 0x00 ∷ 0x00 ∷ 0x00 ∷ 0x00 ∷ 0x00 ∷ 0x00 ∷ 0x00 ∷ []) ∷
     (0x07 ∷ 0x0D ∷ replicate 13 0x01) ∷ (0x07 ∷ 0x0F ∷ replicate 15 0x01) ∷ (0x04 ∷ 256 ∷ replicate 256 0x00) ∷ [])
-    ≡ replicate 25 noFrame
+    ≡ replicate 25 (Reading.Refused Invalid)
 
 -- ---- transfers
 
