@@ -9,7 +9,7 @@ use lib.Seq.{take-all}
 use borrow.Rule.Slice.PartMut.{midOf, putMid}
 use Rattle.model.specs.declared.Session.{Session}
 use Rattle.model.specs.declared.Outcome.{Outcome}
-use Rattle.model.specs.Contract.{Ran, Is}
+use Rattle.words.specs.Contract.{Ran, Is}
 use Rattle.model.specs.Session.{Call, step}
 use Rattle.calls.specs.declared.Act.{Act}
 use Rattle.acts.specs.Acts.{keeping, acted, onFront}

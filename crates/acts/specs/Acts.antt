@@ -8,13 +8,13 @@ use Rattle.model.specs.declared.Interface.the-variants.{Spi, Uart}
 use Rattle.model.specs.declared.Plan.{Plan}
 use Rattle.model.specs.declared.Session.{Session}
 use Rattle.model.specs.declared.Outcome.{Outcome}
-use Rattle.model.specs.Words.{pick}
-use Rattle.model.specs.Contract.{Ran}
-use Rattle.model.specs.Frames.{idn, protocolSelect, sendRecv, idle, echo, settings}
+use Rattle.words.specs.Words.{pick}
+use Rattle.words.specs.Contract.{Ran}
+use Rattle.model.specs.Frames.{command}
 use Rattle.model.specs.Session.{power-on, pulse, request, reset, poll, read, calibrate, next, step}
 use Rattle.text.specs.Lines.{fore, rest, byteAt}
 use Rattle.calls.specs.declared.Act.{Act}
-use Rattle.calls.specs.declared.Act.the-variants.{PowerOn, Pulse, Idn, Select, Exchange, Idle, Echo, Reset, Poll, Read, Calibrate, Next}
+use Rattle.calls.specs.declared.Act.the-variants.{PowerOn, Pulse, Sends, Reset, Poll, Read, Calibrate, Next}
 
 -- spi is 0
 abbrev pub interfaceOf : ℕ → Interface
@@ -42,11 +42,7 @@ keeping out ran = record { answer = ran .answer; bytes = out }
 abbrev pub acted : Session → Act → ℕ → List ℕ → List ℕ → Ran Outcome
 acted s PowerOn number given out = keeping out (step s (power-on (interfaceOf number)))
 acted s Pulse number given out = keeping out (step s pulse)
-acted s Idn number given out = step s (request idn out)
-acted s Select number given out = step s (request (protocolSelect (byteAt given 0) (rest given 1)) out)
-acted s Exchange number given out = step s (request (sendRecv given) out)
-acted s Idle number given out = step s (request (idle (settings given)) out)
-acted s Echo number given out = step s (request echo out)
+acted s (Sends kind) number given out = step s (request (command kind given) out)
 acted s Reset number given out = step s (reset out)
 acted s Poll number given out = step s (poll out)
 acted s Read number given out = step s (read number out)

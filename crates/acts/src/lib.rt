@@ -1,6 +1,6 @@
 // The call of the session that a line makes, on as much of a buffer as is lent.
 ghost use mathlib.Core.Path.{_≡_};
-ghost use Rattle.model.specs.Contract.{Is};
+ghost use Rattle.words.specs.Contract.{Is};
 ghost use Rattle.model.specs.Session.{feed, step};
 ghost use Rattle.acts.specs.Acts.{interfaceOf, planOf, acted, onFront};
 use calls::Act;
@@ -54,11 +54,7 @@ fn act(what: Act, s: Session, number: usize, given: &[u8], out: &mut [u8]) -> Ou
     match what {
         Act::PowerOn => session::power_on(s, interface(number)),
         Act::Pulse => session::pulse(s),
-        Act::Idn => requests::idn(s, out),
-        Act::Select => requests::protocol_select(s, text::at(given, 0), text::after(given, 1), out),
-        Act::Exchange => requests::send_recv(s, given, out),
-        Act::Idle => requests::idle(s, settings::of_data(given), out),
-        Act::Echo => requests::echo(s, out),
+        Act::Sends(kind) => requests::request(s, kind, given, out),
         Act::Reset => requests::reset(s, out),
         Act::Poll => requests::poll(s, out),
         Act::Read => requests::read(s, number, out),

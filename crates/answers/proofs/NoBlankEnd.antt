@@ -8,20 +8,22 @@ use mathlib.Core.List.{List, [], _∷_, _++_, append-nil}
 use lib.Dec.{ltb}
 use borrow.Author.Tests.{ne-eqb}
 use Rattle.model.specs.declared.Refusal.{Refusal}
-use Rattle.model.specs.declared.Refusal.the-variants.{Short, Invalid, Unready, Busy, Malformed, Unawaited, ChipError, LowestTimeout, HighestTag, NoLevel, NoBand, CalibrationError}
+use Rattle.model.specs.declared.Refusal.the-variants.{Short, Invalid, Unready, Busy, Malformed, Unawaited, ChipError, LowestTimeout, HighestTag, NoLevel, CalibrationError}
 use Rattle.model.specs.declared.Answer.{Answer}
-use Rattle.model.specs.declared.Answer.the-variants.{Done, Sent, More, Good, Reference, Refused}
+use Rattle.model.specs.declared.Answer.the-variants.{Done, Sent, More, Good, Woken, Reference, Refused}
+use Rattle.model.specs.declared.Wake.{Wake}
+use Rattle.model.specs.declared.Wake.the-variants.{Timeout, Tag, IrqIn, SpiSs}
 use Rattle.model.specs.declared.Place.{Place}
 use Rattle.model.specs.declared.Place.the-variants.{Nowhere, Piece, Room}
 use Rattle.model.specs.declared.Calibration.{Calibration}
 use Rattle.model.specs.declared.Calibration.the-variants.{Off, On}
-use Rattle.model.specs.Words.{pick, concat}
+use Rattle.words.specs.Words.{pick, concat}
 use Rattle.model.specs.Replies.{dataOf}
-use Rattle.model.proofs.Words.{ways}
+use Rattle.words.proofs.Words.{ways}
 use Rattle.text.specs.Lines.{fore, blank}
 use Rattle.text.specs.Decimal.{decimals, decimal}
 use Rattle.text.specs.Writing.{word, hex, hexes, number}
-use Rattle.answers.specs.Answers.{refusalText, answerText, heldText, usedText, stateName, bracket}
+use Rattle.answers.specs.Answers.{refusalText, wakeName, answerText, heldText, usedText, stateName, bracket}
 use Rattle.answers.specs.Claims.{lastOf, EndsFull, NoBlankEnd}
 
 -- bytes that have a last one, and it is no blank
@@ -76,18 +78,24 @@ refusal-ends (ChipError code) = byte-ends code
 refusal-ends (LowestTimeout commands) = number-ends commands
 refusal-ends (HighestTag commands) = number-ends commands
 refusal-ends (NoLevel commands) = number-ends commands
-refusal-ends NoBand = refl
 refusal-ends (CalibrationError code commands) = number-ends commands
 
 sent-ends : (bytes : List ℕ) → EndsFull (word "sent" ∷ hexes bytes)
 sent-ends [] = refl
 sent-ends (byte ∷ bytes) = after (word "sent" ∷ []) (hexes (byte ∷ bytes)) (bytes-end byte bytes)
 
+wake-ends : (wake : Wake) → EndsFull (word "woken" ∷ wakeName wake ∷ [])
+wake-ends Timeout = refl
+wake-ends Tag = refl
+wake-ends IrqIn = refl
+wake-ends SpiSs = refl
+
 answer-ends : (answer : Answer) (out : List ℕ) → EndsFull (answerText answer out)
 answer-ends Done out = refl
 answer-ends (Sent count) out = sent-ends (fore out count)
 answer-ends More out = refl
 answer-ends Good out = refl
+answer-ends (Woken wake) out = wake-ends wake
 answer-ends (Reference reference commands) out = number-ends commands
 answer-ends (Refused refusal) out = refusal-ends refusal
 

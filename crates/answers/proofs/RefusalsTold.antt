@@ -6,10 +6,10 @@ use mathlib.Core.List.{List, [], _∷_, _++_}
 use lib.Dec.{eqb, eqb→eq}
 use lib.ListN.{getD, take, drop}
 use Rattle.model.specs.declared.Refusal.{Refusal}
-use Rattle.model.specs.declared.Refusal.the-variants.{Short, Invalid, Unready, Busy, Malformed, Unawaited, ChipError, LowestTimeout, HighestTag, NoLevel, NoBand, CalibrationError}
-use Rattle.model.specs.Words.{Bytes, concat}
+use Rattle.model.specs.declared.Refusal.the-variants.{Short, Invalid, Unready, Busy, Malformed, Unawaited, ChipError, LowestTimeout, HighestTag, NoLevel, CalibrationError}
+use Rattle.words.specs.Words.{Bytes, concat}
 use Rattle.model.specs.Refusals.{valuesOf}
-use Rattle.model.proofs.Words.{each}
+use Rattle.words.proofs.Words.{each}
 use Rattle.text.specs.Lines.{wordLength}
 use Rattle.text.specs.Hex.{byteOf}
 use Rattle.text.specs.Decimal.{decimal, valueOf}
@@ -31,7 +31,7 @@ spelled n = valueOf (decimal n ++ [])
 count-back : (n : ℕ) → n < 256 → spelled n ≡ n
 count-back n h = eqb→eq (spelled n) n (each (λ (k : ℕ). eqb (spelled k) k) 256 tt n h)
 
--- the refusals by their numbers, with values read behind the number
+-- the refusals by their numbers, with values read behind the number; 11 is none of a session's
 abbrev refusals : List ℕ → List Refusal
 refusals values =
     let commands = valueOf (drop 10 values) in
@@ -45,7 +45,7 @@ refusals values =
     ∷ LowestTimeout commands
     ∷ HighestTag commands
     ∷ NoLevel commands
-    ∷ NoBand
+    ∷ Short
     ∷ CalibrationError (codeAt values) (valueOf (drop 13 values))
     ∷ []
 
@@ -68,7 +68,6 @@ back (ChipError code) (h, _) = ap ChipError (code-back code h)
 back (LowestTimeout commands) (h, _) = ap LowestTimeout (count-back commands h)
 back (HighestTag commands) (h, _) = ap HighestTag (count-back commands h)
 back (NoLevel commands) (h, _) = ap NoLevel (count-back commands h)
-back NoBand h = refl
 back (CalibrationError code commands) (h, (k, _)) = ap₂ CalibrationError (code-back code h) (count-back commands k)
 
 pub refusals-told : RefusalsTold

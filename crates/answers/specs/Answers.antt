@@ -3,13 +3,13 @@
 use Prim.Native.Nat.{ℕ}
 use mathlib.Core.List.{List, [], _∷_, _++_}
 use Rattle.model.specs.declared.Refusal.{Refusal}
-use Rattle.model.specs.declared.Refusal.the-variants.{Short, Invalid, Unready, Busy, Malformed, Unawaited, ChipError, LowestTimeout, HighestTag, NoLevel, NoBand, CalibrationError}
+use Rattle.model.specs.declared.Refusal.the-variants.{Short, Invalid, Unready, Busy, Malformed, Unawaited, ChipError, LowestTimeout, HighestTag, NoLevel, CalibrationError}
 use Rattle.model.specs.declared.Answer.{Answer}
-use Rattle.model.specs.declared.Answer.the-variants.{Done, Sent, More, Good, Reference, Refused}
+use Rattle.model.specs.declared.Answer.the-variants.{Done, Sent, More, Good, Woken, Reference, Refused}
 use Rattle.model.specs.declared.Place.{Place}
 use Rattle.model.specs.declared.Place.the-variants.{Nowhere, Piece, Room}
-use Rattle.model.specs.declared.Awaited.{Awaited}
-use Rattle.model.specs.declared.Awaited.the-variants.{Idn, ProtocolSelect, SendRecv, Idle, Echo}
+use Rattle.model.specs.declared.Wake.{Wake}
+use Rattle.model.specs.declared.Wake.the-variants.{Timeout, Tag, IrqIn, SpiSs}
 use Rattle.model.specs.declared.State.{State}
 use Rattle.model.specs.declared.State.the-variants.{PowerUp, Ready, Selected, Waiting, Lost}
 use Rattle.model.specs.declared.Calibration.{Calibration}
@@ -19,6 +19,7 @@ use Rattle.model.specs.Refusals.{numberOf}
 use Rattle.model.specs.Replies.{dataOf}
 use Rattle.text.specs.Lines.{fore}
 use Rattle.text.specs.Writing.{word, hex, hexes, number}
+use Rattle.calls.specs.Calls.{kindName}
 
 -- ---- the answer
 
@@ -38,11 +39,21 @@ valuesText (ChipError code) = hex code ∷ []
 valuesText (LowestTimeout commands) = commandsText commands
 valuesText (HighestTag commands) = commandsText commands
 valuesText (NoLevel commands) = commandsText commands
-valuesText NoBand = []
 valuesText (CalibrationError code commands) = hex code ∷ commandsText commands
 
+-- a refusal by its number
+abbrev pub refusedText : ℕ → List (List ℕ)
+refusedText n = word "refused" ∷ number n
+
 abbrev pub refusalText : Refusal → List (List ℕ)
-refusalText refusal = word "refused" ∷ (number (numberOf refusal) ++ valuesText refusal)
+refusalText refusal = refusedText (numberOf refusal) ++ valuesText refusal
+
+-- what woke the chip
+abbrev pub wakeName : Wake → List ℕ
+wakeName Timeout = word " timeout"
+wakeName Tag = word " tag"
+wakeName IrqIn = word " irq-in"
+wakeName SpiSs = word " spi-ss"
 
 -- the bytes that were sent are at the front of out
 abbrev pub answerText : Answer → List ℕ → List (List ℕ)
@@ -50,6 +61,7 @@ answerText Done out = word "ok" ∷ []
 answerText (Sent count) out = word "sent" ∷ hexes (fore out count)
 answerText More out = word "more" ∷ []
 answerText Good out = word "good" ∷ []
+answerText (Woken wake) out = word "woken" ∷ wakeName wake ∷ []
 answerText (Reference reference commands) out = word "reference" ∷ hex reference ∷ commandsText commands
 answerText (Refused refusal) out = refusalText refusal
 
@@ -70,19 +82,12 @@ usedText used place piece room = word " used" ∷ (number used ++ dataText place
 
 -- ---- the state, in brackets
 
--- the call that sent the command to which a reply is awaited
-abbrev pub commandName : Awaited → List ℕ
-commandName Idn = word "idn"
-commandName (ProtocolSelect protocol) = word "select"
-commandName SendRecv = word "send"
-commandName (Idle source) = word "idle"
-commandName Echo = word "echo"
-
+-- a reply is awaited to the command that the call of this name sent
 abbrev pub stateName : State → List (List ℕ)
 stateName PowerUp = word " [power-up" ∷ []
 stateName Ready = word " [ready" ∷ []
 stateName (Selected protocol) = word " [selected" ∷ number protocol
-stateName (Waiting progress selected) = word " [waiting " ∷ commandName (progress .awaited) ∷ []
+stateName (Waiting progress selected) = word " [waiting " ∷ kindName (progress .awaited .kind) ∷ []
 stateName Lost = word " [lost" ∷ []
 
 abbrev pub bracket : Calibration → List ℕ

@@ -8,7 +8,7 @@ use Rattle.model.specs.declared.Refusal.{Refusal}
 use Rattle.model.specs.declared.Answer.{Answer}
 use Rattle.model.specs.declared.Place.{Place}
 use Rattle.model.specs.declared.Session.{Session}
-use Rattle.model.specs.Words.{Bytes, concat}
+use Rattle.words.specs.Words.{Bytes, concat}
 use Rattle.model.specs.Refusals.{valuesOf}
 use Rattle.text.specs.Lines.{blank}
 use Rattle.answers.specs.Answers.{refusalText, answerText, usedText, stateText}

@@ -3,15 +3,14 @@ ghost use mathlib.Core.Path.{_≡_};
 ghost use mathlib.Core.List.{[], _∷_};
 ghost use Rattle.model.specs.Refusals.{numberOf};
 ghost use Rattle.text.specs.Writing.{Puts, word, hex, hexes, number};
-ghost use Rattle.calls.specs.Calls.{nameOf};
-ghost use Rattle.answers.specs.Answers.{commandsText, valuesText, refusalText, answerText, heldText, usedText, commandName, stateName, stateText};
+ghost use Rattle.answers.specs.Answers.{commandsText, valuesText, refusedText, refusalText, wakeName, answerText, heldText, usedText, stateName, stateText};
 use model::Answer;
-use model::Awaited;
 use model::Calibration;
 use model::Place;
 use model::Refusal;
 use model::Session;
 use model::State;
+use model::Wake;
 
 // The number of a refusal.
 fn number_of(refusal: Refusal) -> u8
@@ -28,7 +27,6 @@ fn number_of(refusal: Refusal) -> u8
         Refusal::LowestTimeout { commands: _ } => 8,
         Refusal::HighestTag { commands: _ } => 9,
         Refusal::NoLevel { commands: _ } => 10,
-        Refusal::NoBand => 11,
         Refusal::CalibrationError {
             code: _,
             commands: _,
@@ -67,11 +65,37 @@ fn put_values(text: &mut [u8], at: usize, refusal: Refusal) -> usize
     }
 }
 
+// A refusal that no session gives, by its number.
+pub fn put_refused(text: &mut [u8], number: u8) -> usize
+    ensures { λ r. ⌜ Puts (now (text .entry)) 0 (refusedText number) r (now (text .exit)) ⌝ }
+{
+    put_count(text, 0, b"refused", number as u64)
+}
+
 pub fn put_refusal(text: &mut [u8], refusal: Refusal) -> usize
     ensures { λ r. ⌜ Puts (now (text .entry)) 0 (refusalText refusal) r (now (text .exit)) ⌝ }
 {
-    let next = put_count(text, 0, b"refused", number_of(refusal) as u64);
+    let next = put_refused(text, number_of(refusal));
     put_values(text, next, refusal)
+}
+
+fn put_wake(text: &mut [u8], at: usize, wake: Wake) -> usize
+    ensures { λ r. ⌜ Puts (now (text .entry)) at (wakeName wake ∷ []) r (now (text .exit)) ⌝ }
+{
+    match wake {
+        Wake::Timeout => text::put(text, at, b" timeout"),
+        Wake::Tag => text::put(text, at, b" tag"),
+        Wake::IrqIn => text::put(text, at, b" irq-in"),
+        Wake::SpiSs => text::put(text, at, b" spi-ss"),
+    }
+}
+
+// What woke the chip.
+fn put_woken(text: &mut [u8], wake: Wake) -> usize
+    ensures { λ r. ⌜ Puts (now (text .entry)) 0 (word "woken" ∷ wakeName wake ∷ []) r (now (text .exit)) ⌝ }
+{
+    let next = text::put(text, 0, b"woken");
+    put_wake(text, next, wake)
 }
 
 // The bytes that were sent.
@@ -100,6 +124,7 @@ pub fn put_answer(text: &mut [u8], answer: Answer, out: &[u8]) -> usize
         Answer::Sent { count } => put_sent(text, text::front(out, count)),
         Answer::More => text::put(text, 0, b"more"),
         Answer::Good => text::put(text, 0, b"good"),
+        Answer::Woken { wake } => put_woken(text, wake),
         Answer::Reference {
             reference,
             commands,
@@ -139,19 +164,6 @@ pub fn put_used<'a>(
     }
 }
 
-// The command that a reply is awaited to, by the number of its name.
-fn name_of(awaited: Awaited) -> u8
-    ensures { λ r. ⌜ nameOf r ≡ commandName awaited ⌝ }
-{
-    match awaited {
-        Awaited::Idn => calls::IDN,
-        Awaited::ProtocolSelect { protocol: _ } => calls::SELECT,
-        Awaited::SendRecv => calls::SEND,
-        Awaited::Idle { source: _ } => calls::IDLE,
-        Awaited::Echo => calls::ECHO,
-    }
-}
-
 fn put_name(text: &mut [u8], at: usize, state: State) -> usize
     ensures { λ r. ⌜ Puts (now (text .entry)) at (stateName state) r (now (text .exit)) ⌝ }
 {
@@ -164,8 +176,9 @@ fn put_name(text: &mut [u8], at: usize, state: State) -> usize
             selected: _,
         } => {
             let awaited = progress.awaited;
+            let kind = awaited.kind;
             let next = text::put(text, at, b" [waiting ");
-            calls::put_name(text, next, name_of(awaited))
+            calls::put_kind(text, next, kind)
         }
         State::Lost => text::put(text, at, b" [lost"),
     }

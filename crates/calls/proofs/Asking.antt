@@ -7,8 +7,8 @@ use mathlib.Core.List.{List}
 use lib.Dec.{ltb}
 use lib.ListN.{length}
 use borrow.Author.Tests.{lt-ltb, le-ltb, eq-eqb, ne-eqb}
-use Rattle.model.specs.Words.{pick}
-use Rattle.model.specs.Contract.{Ran, Is}
+use Rattle.words.specs.Words.{pick}
+use Rattle.words.specs.Contract.{Ran, Is}
 use Rattle.text.specs.declared.Bytes.{Bytes}
 use Rattle.text.specs.declared.Number.{Number}
 use Rattle.text.specs.declared.Number.the-variants.{Is as Numeral}
@@ -16,16 +16,16 @@ use Rattle.text.specs.Lines.{skipped, wordEnd, between, isWord}
 use Rattle.text.specs.Hex.{readBytes}
 use Rattle.text.specs.Decimal.{readNumber}
 use Rattle.text.specs.Writing.{word}
-use Rattle.calls.specs.declared.Call.{Call}
+use Rattle.calls.specs.declared.Verb.{Verb}
 use Rattle.calls.specs.declared.Shape.{Shape}
 use Rattle.calls.specs.declared.Fault.the-variants.{Unknown, Longer, NoInterface, Above}
 use Rattle.calls.specs.declared.Asked.{Asked}
 use Rattle.calls.specs.declared.Asked.the-variants.{Understood, Wrong}
-use Rattle.calls.specs.Calls.{rows, callOf, position, takes}
-use Rattle.calls.specs.Asking.{ended, interfaced, bytesAsked, any, counted, judged, untouched, numbered, taken, asked}
+use Rattle.calls.specs.Calls.{rows, callOf, shapeOf, position}
+use Rattle.calls.specs.Asking.{ended, interfaced, bytesAsked, any, counted, judged, untouched, numbered, readShape, asked}
 
 -- the end of the line, from where the blanks end
-module _ (call : Call) (number : ℕ) (line : List ℕ) (from : ℕ) {next : ℕ} (is : next ≡ skipped line from) where
+module _ (call : Verb) (number : ℕ) (line : List ℕ) (from : ℕ) {next : ℕ} (is : next ≡ skipped line from) where
   pub more-behind : next < length line → Wrong (Longer next) ≡ ended call number line from
   more-behind h = rw (← is, lt-ltb next (length line) h)
 
@@ -33,7 +33,7 @@ module _ (call : Call) (number : ℕ) (line : List ℕ) (from : ℕ) {next : ℕ
   none-behind h = rw (← is, le-ltb next (length line) h)
 
 -- the interface, from its word
-module _ (call : Call) (line : List ℕ) (from : ℕ) {start end : ℕ} (starts : start ≡ skipped line from) (ends : end ≡ wordEnd line start) where
+module _ (call : Verb) (line : List ℕ) (from : ℕ) {start end : ℕ} (starts : start ≡ skipped line from) (ends : end ≡ wordEnd line start) where
   abbrev spi : Bool
   spi = isWord line start end (word "spi")
 
@@ -54,7 +54,7 @@ module _ (call : Call) (line : List ℕ) (from : ℕ) {start end : ℕ} (starts 
     by-neither t also u = found (simp (sym is ∙ t, sym also ∙ u))
 
 -- bytes, by how their reading ended
-pub bytes-are : (call : Call) (number : ℕ) (line : List ℕ) (from : ℕ) (buffer : List ℕ) {exit : List ℕ} {read known : Bytes} → read ≡ known
+pub bytes-are : (call : Verb) (number : ℕ) (line : List ℕ) (from : ℕ) (buffer : List ℕ) {exit : List ℕ} {read known : Bytes} → read ≡ known
     → Is (readBytes line from buffer) read exit → Is (any call number line from buffer) (bytesAsked call number known) exit
 bytes-are call number line from buffer e is = record { answer = ap (bytesAsked call number) (sym e ∙ is .answer); bytes = is .bytes }
 
@@ -63,7 +63,7 @@ pub judging : (judge : Asked → Asked) (m : Ran Asked) {first r : Asked} {exit 
 judging judge m is e = record { answer = e ∙ ap judge (is .answer); bytes = is .bytes }
 
 -- a number, by how its reading ended
-module _ (call : Call) (greatest wanted : ℕ) (line buffer : List ℕ) (from : ℕ) {read : Number} (is : read ≡ readNumber line from) where
+module _ (call : Verb) (greatest wanted : ℕ) (line buffer : List ℕ) (from : ℕ) {read : Number} (is : read ≡ readNumber line from) where
   abbrev run : Number → Ran Asked
   run n = numbered call greatest wanted line buffer n
 
@@ -84,24 +84,23 @@ module _ (call : Call) (greatest wanted : ℕ) (line buffer : List ℕ) (from : 
           by-number e (simp (le-ltb greatest value h, ne-eqb wanted 0 w) (judging (counted wanted) (any call value line next buffer) did j))
 
 -- a call by its shape
-pub by-shape : (call : Call) (line : List ℕ) (from : ℕ) (buffer : List ℕ) {r : Asked} {exit : List ℕ} {shape known : Shape} → shape ≡ known
-    → Is (taken call known line from buffer) r exit → Is (taken call shape line from buffer) r exit
-by-shape call line from buffer {r} {exit} e is = subst (λ (s : Shape). Is (taken call s line from buffer) r exit) (sym e) is
+pub by-shape : (call : Verb) (line : List ℕ) (from : ℕ) (buffer : List ℕ) {r : Asked} {exit : List ℕ} {shape known : Shape} → shape ≡ known
+    → Is (readShape call known line from buffer) r exit → Is (readShape call shape line from buffer) r exit
+by-shape call line from buffer {r} {exit} e is = subst (λ (s : Shape). Is (readShape call s line from buffer) r exit) (sym e) is
 
 -- a line by its first word
 module _ (line buffer : List ℕ) {start end k : ℕ} (starts : start ≡ skipped line 0) (ends : end ≡ wordEnd line start)
     (is : k ≡ position (between line start end) rows) where
   abbrev run-of : ℕ → ℕ → Ran Asked
-  run-of k end = pick (ltb k (length rows)) (taken (callOf k) (takes (callOf k)) line end buffer) (untouched buffer (Wrong Unknown))
+  run-of k end = pick (ltb k (length rows)) (readShape (callOf k) (shapeOf k) line end buffer) (untouched buffer (Wrong Unknown))
 
   by-word : {r : Asked} {exit : List ℕ} → Is (run-of k end) r exit → Is (asked line buffer) r exit
   by-word did = rw (← starts, ← ends, ← is) did
 
-  pub by-name : {call : Call} {shape : Shape} {r : Asked} {exit : List ℕ} → k < 22 → call ≡ callOf k → shape ≡ takes call
-      → Is (taken call shape line end buffer) r exit → Is (asked line buffer) r exit
-  by-name {call} {r = r} {exit} h c t did =
-      let known = by-shape call line end buffer (sym t) did in
-      by-word (simp (lt-ltb k 22 h) (subst (λ (x : Call). Is (taken x (takes x) line end buffer) r exit) c known))
+  pub by-name : {call : Verb} {shape : Shape} {r : Asked} {exit : List ℕ} → k < 22 → call ≡ callOf k → shape ≡ shapeOf k
+      → Is (readShape call shape line end buffer) r exit → Is (asked line buffer) r exit
+  by-name {call} {shape} {r} {exit} h c t did =
+      by-word (simp (lt-ltb k 22 h) (subst (λ (x : Verb). Is (readShape x (shapeOf k) line end buffer) r exit) c (by-shape call line end buffer (sym t) did)))
 
   pub no-name : 22 ≤ k → Is (asked line buffer) (Wrong Unknown) buffer
   no-name h = by-word (simp (le-ltb k 22 h) (record { answer = refl; bytes = refl }))

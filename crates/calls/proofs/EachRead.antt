@@ -1,4 +1,4 @@
--- Each name is read as its own call, and no two calls share one.
+-- Each name is read as its own call, no two calls share one, and that of a command sends it.
 -- Assumes nothing.
 use Prim.Native.Nat.{ℕ, _<_}
 use native.Mathlib.Omega.{arith}
@@ -7,14 +7,15 @@ use mathlib.Core.List.{List}
 use lib.Dec.{T, eqb, eqb→eq}
 use lib.ListN.{length}
 use lib.Seq.{take-length, drop-length}
-use Rattle.model.specs.Contract.{Is}
-use Rattle.model.proofs.Words.{all, each}
+use Rattle.words.specs.Contract.{Is}
+use Rattle.words.proofs.Words.{all, each}
 use Rattle.text.specs.Lines.{skipped, wordEnd, between}
+use Rattle.model.specs.declared.Kind.the-variants.{Idn, ProtocolSelect, SendRecv, Idle, Echo}
 use Rattle.calls.specs.declared.Asked.{Asked}
 use Rattle.calls.specs.declared.Asked.the-variants.{Understood}
 use Rattle.calls.specs.Calls.{rows, nameOf, callOf, position}
 use Rattle.calls.specs.Asking.{asked}
-use Rattle.calls.specs.Claims.{EachRead, OneName}
+use Rattle.calls.specs.Claims.{EachRead, OneName, EachSent}
 use Rattle.calls.proofs.Asking.{none-behind, by-name}
 
 -- what two functions say of each row, by one computed test
@@ -38,3 +39,10 @@ each-read k h nothing buffer =
     by-name name buffer (sym begins) (sym ends) (sym (ap (λ (w : List ℕ). position w rows) whole ∙ number-of-name k h)) h refl (sym nothing)
     (record { answer = none-behind (callOf k) 0 name (length name) past (omega arith); bytes = refl }) in
     ap₂ (λ (r : Asked) (exit : List ℕ). record { answer = r; bytes = exit }) (sym (is .answer)) (sym (is .bytes))
+
+pub each-sent : EachSent
+each-sent Idn = refl
+each-sent ProtocolSelect = refl
+each-sent SendRecv = refl
+each-sent Idle = refl
+each-sent Echo = refl

@@ -4,19 +4,20 @@ use Prim.Native.Nat.{ℕ, zero, suc, _+_, _*_, _≤_, _<_}
 use native.Mathlib.Nat.{eq-or-lt-of-le}
 use native.Mathlib.Numerals.{add-one}
 use native.Mathlib.Omega.{arith}
-use mathlib.Core.Path.{_≡_, refl, sym, ap, subst⁻¹, ap₂}
+use mathlib.Core.Path.{_≡_, refl, sym, ap, subst, subst⁻¹, ap₂}
 use mathlib.Core.Bool.{Bool, true, false}
 use mathlib.Core.Logic.{inl, inr}
 use mathlib.Core.List.{List, [], _∷_}
 use lib.Dec.{T, eqb, eqb→eq}
 use lib.ListN.{length, drop, getD, drop-of-length-le, List·getD-eq-default}
 use lib.Seq.{drop-cons}
-use Rattle.model.specs.Words.{pick}
-use Rattle.model.proofs.Words.{each}
+use Rattle.words.specs.Words.{pick}
+use Rattle.words.proofs.Words.{each}
 use Rattle.text.specs.Lines.{same}
 use Rattle.text.specs.Writing.{word}
-use Rattle.calls.specs.declared.Call.the-variants.{Helps}
-use Rattle.calls.specs.Calls.{Row, row, rows, nameOf, callOf, position, wordAt}
+use Rattle.calls.specs.declared.Verb.the-variants.{Helps}
+use Rattle.calls.specs.declared.Shape.the-variants.{Nothing}
+use Rattle.calls.specs.Calls.{Row, row, rows, rowOf, nameOf, callOf, shapeOf, position, wordAt}
 
 abbrev pub table : List ℕ
 table =
@@ -59,9 +60,16 @@ pub past : (n k : ℕ) → Passed n k → n ≤ k
 past zero k h = omega arith
 past (suc n) k h = let l = past n k (h .0) in omega (arith, h .1)
 
-pub helps : (k : ℕ) → 21 ≤ k → Helps ≡ callOf k
-helps k h =
+-- behind the last but one, help
+last-row : (k : ℕ) → 21 ≤ k → (rowOf k .call ≡ Helps) × (rowOf k .shape ≡ Nothing)
+last-row k h =
     elim (eq-or-lt-of-le h) [
-      | inl e ↦ ap callOf e
-      | inr l ↦ ap (λ (r : Row). r .call) (sym (List·getD-eq-default rows (row "" Helps) {n = k} l))
+      | inl e ↦ subst (λ (j : ℕ). (rowOf j .call ≡ Helps) × (rowOf j .shape ≡ Nothing)) e (refl, refl)
+      | inr l ↦ let q = List·getD-eq-default rows (row "" Helps Nothing) {n = k} l in (ap (λ (r : Row). r .call) q, ap (λ (r : Row). r .shape) q)
     ]
+
+pub helps : (k : ℕ) → 21 ≤ k → Helps ≡ callOf k
+helps k h = sym (last-row k h .0)
+
+pub takes-nothing : (k : ℕ) → 21 ≤ k → Nothing ≡ shapeOf k
+takes-nothing k h = sym (last-row k h .1)

@@ -4,8 +4,8 @@ use Prim.Native.Nat.{ℕ}
 use mathlib.Core.List.{List}
 use lib.Dec.{ltb, eqb}
 use lib.ListN.{length}
-use Rattle.model.specs.Words.{pick}
-use Rattle.model.specs.Contract.{Ran}
+use Rattle.words.specs.Words.{pick}
+use Rattle.words.specs.Contract.{Ran}
 use Rattle.text.specs.declared.Bytes.{Bytes}
 use Rattle.text.specs.declared.Bytes.the-variants.{Are}
 use Rattle.text.specs.declared.Bytes.the-variants.{Wrong as NoBytes}
@@ -16,24 +16,24 @@ use Rattle.text.specs.Lines.{skipped, wordEnd, between, isWord}
 use Rattle.text.specs.Hex.{readBytes}
 use Rattle.text.specs.Decimal.{readNumber}
 use Rattle.text.specs.Writing.{word}
-use Rattle.calls.specs.declared.Call.{Call}
+use Rattle.calls.specs.declared.Verb.{Verb}
 use Rattle.calls.specs.declared.Shape.{Shape}
 use Rattle.calls.specs.declared.Shape.the-variants.{Nothing, Interface, Numbered, Exactly, Protocol, Any}
 use Rattle.calls.specs.declared.Fault.the-variants.{Unknown, Longer, NoPair, NoNumber, NoInterface, Count, NoProtocol, Above}
 use Rattle.calls.specs.declared.Asked.{Asked}
 use Rattle.calls.specs.declared.Asked.the-variants.{Understood, Wrong}
-use Rattle.calls.specs.Calls.{rows, callOf, position, takes}
+use Rattle.calls.specs.Calls.{rows, callOf, shapeOf, position}
 
 -- ---- what stands behind the name
 
 -- nothing more: a call with a number and no bytes
-abbrev pub ended : Call → ℕ → List ℕ → ℕ → Asked
+abbrev pub ended : Verb → ℕ → List ℕ → ℕ → Asked
 ended call number line from =
     let next = skipped line from in
     pick (ltb next (length line)) (Wrong (Longer next)) (Understood call number 0)
 
 -- spi, which is 0, or uart, which is 1, and nothing more
-abbrev pub interfaced : Call → List ℕ → ℕ → Asked
+abbrev pub interfaced : Verb → List ℕ → ℕ → Asked
 interfaced call line from =
     let start = skipped line from in
     let end = wordEnd line start in
@@ -41,12 +41,12 @@ interfaced call line from =
     (pick (isWord line start end (word "uart")) (ended call 1 line end) (Wrong (NoInterface start)))
 
 -- bytes, if they could be read
-abbrev pub bytesAsked : Call → ℕ → Bytes → Asked
+abbrev pub bytesAsked : Verb → ℕ → Bytes → Asked
 bytesAsked call number (Are count) = Understood call number count
 bytesAsked call number (NoBytes place) = Wrong (NoPair place)
 
 -- any bytes, read into a buffer
-abbrev pub any : Call → ℕ → List ℕ → ℕ → List ℕ → Ran Asked
+abbrev pub any : Verb → ℕ → List ℕ → ℕ → List ℕ → Ran Asked
 any call number line from buffer =
     let read = readBytes line from buffer in
     record { answer = bytesAsked call number (read .answer); bytes = read .bytes }
@@ -70,7 +70,7 @@ abbrev pub untouched : List ℕ → Asked → Ran Asked
 untouched buffer asked = record { answer = asked; bytes = buffer }
 
 -- a number up to a greatest, then so many bytes, or nothing more where none are wanted
-abbrev pub numbered : Call → ℕ → ℕ → List ℕ → List ℕ → Number → Ran Asked
+abbrev pub numbered : Verb → ℕ → ℕ → List ℕ → List ℕ → Number → Ran Asked
 numbered call greatest wanted line buffer (Is value next) =
     pick (ltb greatest value) (untouched buffer (Wrong (Above value greatest)))
     (pick (eqb wanted 0) (untouched buffer (ended call value line next)) (judged (counted wanted) (any call value line next buffer)))
@@ -79,13 +79,13 @@ numbered call greatest wanted line buffer (NoNumeral place) = untouched buffer (
 -- ---- the line
 
 -- what a call takes, read from a place on
-abbrev pub taken : Call → Shape → List ℕ → ℕ → List ℕ → Ran Asked
-taken call Nothing line from buffer = untouched buffer (ended call 0 line from)
-taken call Interface line from buffer = untouched buffer (interfaced call line from)
-taken call (Numbered greatest wanted) line from buffer = numbered call greatest wanted line buffer (readNumber line from)
-taken call (Exactly wanted) line from buffer = judged (counted wanted) (any call 0 line from buffer)
-taken call Protocol line from buffer = judged protocolled (any call 0 line from buffer)
-taken call Any line from buffer = any call 0 line from buffer
+abbrev pub readShape : Verb → Shape → List ℕ → ℕ → List ℕ → Ran Asked
+readShape call Nothing line from buffer = untouched buffer (ended call 0 line from)
+readShape call Interface line from buffer = untouched buffer (interfaced call line from)
+readShape call (Numbered greatest wanted) line from buffer = numbered call greatest wanted line buffer (readNumber line from)
+readShape call (Exactly wanted) line from buffer = judged (counted wanted) (any call 0 line from buffer)
+readShape call Protocol line from buffer = judged protocolled (any call 0 line from buffer)
+readShape call Any line from buffer = any call 0 line from buffer
 
 -- the call of a line, its bytes read to the front of a buffer
 abbrev pub asked : List ℕ → List ℕ → Ran Asked
@@ -93,4 +93,4 @@ asked line buffer =
     let start = skipped line 0 in
     let end = wordEnd line start in
     let k = position (between line start end) rows in
-    pick (ltb k (length rows)) (taken (callOf k) (takes (callOf k)) line end buffer) (untouched buffer (Wrong Unknown))
+    pick (ltb k (length rows)) (readShape (callOf k) (shapeOf k) line end buffer) (untouched buffer (Wrong Unknown))

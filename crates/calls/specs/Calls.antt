@@ -4,65 +4,18 @@ use Prim.Native.Nat.{ℕ, _+_}
 use Prim.Native.String.{String}
 use mathlib.Core.List.{List, [], _∷_}
 use lib.ListN.{getD}
-use Rattle.model.specs.Words.{pick}
+use Rattle.model.specs.declared.Kind.{Kind}
+use Rattle.model.specs.declared.Kind.the-variants.{Idn, ProtocolSelect, SendRecv, Idle, Echo}
+use Rattle.words.specs.Words.{pick}
 use Rattle.text.specs.Lines.{fore, rest, wordEnd, same}
 use Rattle.text.specs.Writing.{word}
-use Rattle.calls.specs.declared.Act.{Act}
-use Rattle.calls.specs.declared.Act.the-variants.{PowerOn, Pulse, Idn, Select, Exchange, Idle, Echo, Reset, Poll, Read, Calibrate, Next}
-use Rattle.calls.specs.declared.Question.{Question}
+use Rattle.calls.specs.declared.Act.the-variants.{PowerOn, Pulse, Sends, Reset, Poll, Read, Calibrate, Next}
 use Rattle.calls.specs.declared.Question.the-variants.{Times, Wait, Band, Command, Flags, Received}
 use Rattle.calls.specs.declared.Buffer.the-variants.{Out, Room}
 use Rattle.calls.specs.declared.Shape.{Shape}
 use Rattle.calls.specs.declared.Shape.the-variants.{Nothing, Interface, Numbered, Exactly, Protocol, Any}
-use Rattle.calls.specs.declared.Call.{Call}
-use Rattle.calls.specs.declared.Call.the-variants.{Acts, Feeds, Tells, Sets, Helps}
-
--- a name and its call
-pub record Row : Type 0 where
-  pub name : List ℕ
-  pub call : Call
-
-abbrev pub row : String → Call → Row
-row name call = record { name = word name; call = call }
-
-abbrev pub rows : List Row
-rows =
-    row "power-on" (Acts PowerOn)
-    ∷ row "pulse" (Acts Pulse)
-    ∷ row "idn" (Acts Idn)
-    ∷ row "select" (Acts Select)
-    ∷ row "send" (Acts Exchange)
-    ∷ row "idle" (Acts Idle)
-    ∷ row "echo" (Acts Echo)
-    ∷ row "reset" (Acts Reset)
-    ∷ row "poll" (Acts Poll)
-    ∷ row "read" (Acts Read)
-    ∷ row "calibrate" (Acts Calibrate)
-    ∷ row "next" (Acts Next)
-    ∷ row "feed" Feeds
-    ∷ row "times" (Tells Times)
-    ∷ row "wait" (Tells Wait)
-    ∷ row "band" (Tells Band)
-    ∷ row "command" (Tells Command)
-    ∷ row "flags" (Tells Flags)
-    ∷ row "received" (Tells Received)
-    ∷ row "out" (Sets Out)
-    ∷ row "room" (Sets Room)
-    ∷ row "help" Helps
-    ∷ []
-
--- the name of a number, none behind the last
-abbrev pub nameOf : ℕ → List ℕ
-nameOf k = getD rows k (row "" Helps) .name
-
--- the call of a number, help behind the last
-abbrev pub callOf : ℕ → Call
-callOf k = getD rows k (row "" Helps) .call
-
--- the number of a word: how many rows come before its own, or how many there are
-abbrev pub position : List ℕ → List Row → ℕ
-position w [] = 0
-position w (r ∷ rs) = pick (same w (r .name)) 0 (1 + position w rs)
+use Rattle.calls.specs.declared.Verb.{Verb}
+use Rattle.calls.specs.declared.Verb.the-variants.{Acts, Feeds, Tells, Sets, Helps}
 
 -- ---- what a call takes
 
@@ -74,34 +27,71 @@ longest = 600
 abbrev pub greatest : ℕ
 greatest = 999999999
 
-abbrev pub actTakes : Act → Shape
-actTakes PowerOn = Interface
-actTakes Pulse = Nothing
-actTakes Idn = Nothing
-actTakes Select = Protocol
-actTakes Exchange = Any
-actTakes Idle = Exactly 14
-actTakes Echo = Nothing
-actTakes Reset = Nothing
-actTakes Poll = Nothing
-actTakes Read = Numbered greatest 0
-actTakes Calibrate = Numbered 255 10
-actTakes Next = Nothing
+-- ---- the table
 
-abbrev pub questionTakes : Question → Shape
-questionTakes Times = Exactly 14
-questionTakes Wait = Exactly 14
-questionTakes Band = Exactly 1
-questionTakes Command = Any
-questionTakes Flags = Exactly 1
-questionTakes Received = Any
+-- a name, its call, and what it takes
+pub record Row : Type 0 where
+  pub name : List ℕ
+  pub call : Verb
+  pub shape : Shape
 
-abbrev pub takes : Call → Shape
-takes (Acts act) = actTakes act
-takes Feeds = Any
-takes (Tells question) = questionTakes question
-takes (Sets buffer) = Numbered longest 0
-takes Helps = Nothing
+abbrev pub row : String → Verb → Shape → Row
+row name call shape = record { name = word name; call = call; shape = shape }
+
+abbrev pub rows : List Row
+rows =
+    row "power-on" (Acts PowerOn) Interface
+    ∷ row "pulse" (Acts Pulse) Nothing
+    ∷ row "idn" (Acts (Sends Idn)) Nothing
+    ∷ row "select" (Acts (Sends ProtocolSelect)) Protocol
+    ∷ row "send" (Acts (Sends SendRecv)) Any
+    ∷ row "idle" (Acts (Sends Idle)) (Exactly 14)
+    ∷ row "echo" (Acts (Sends Echo)) Nothing
+    ∷ row "reset" (Acts Reset) Nothing
+    ∷ row "poll" (Acts Poll) Nothing
+    ∷ row "read" (Acts Read) (Numbered greatest 0)
+    ∷ row "calibrate" (Acts Calibrate) (Numbered 255 10)
+    ∷ row "next" (Acts Next) Nothing
+    ∷ row "feed" Feeds Any
+    ∷ row "times" (Tells Times) (Exactly 14)
+    ∷ row "wait" (Tells Wait) (Exactly 14)
+    ∷ row "band" (Tells Band) (Exactly 1)
+    ∷ row "command" (Tells Command) Any
+    ∷ row "flags" (Tells Flags) (Exactly 1)
+    ∷ row "received" (Tells Received) Any
+    ∷ row "out" (Sets Out) (Numbered longest 0)
+    ∷ row "room" (Sets Room) (Numbered longest 0)
+    ∷ row "help" Helps Nothing
+    ∷ []
+
+-- the row of a number, help without a name behind the last
+abbrev pub rowOf : ℕ → Row
+rowOf k = getD rows k (row "" Helps Nothing)
+
+abbrev pub nameOf : ℕ → List ℕ
+nameOf k = rowOf k .name
+
+abbrev pub callOf : ℕ → Verb
+callOf k = rowOf k .call
+
+abbrev pub shapeOf : ℕ → Shape
+shapeOf k = rowOf k .shape
+
+-- the number of the call that sends a command, and its name
+abbrev pub sentBy : Kind → ℕ
+sentBy Idn = 2
+sentBy ProtocolSelect = 3
+sentBy SendRecv = 4
+sentBy Idle = 5
+sentBy Echo = 6
+
+abbrev pub kindName : Kind → List ℕ
+kindName kind = nameOf (sentBy kind)
+
+-- the number of a word: how many rows come before its own, or how many there are
+abbrev pub position : List ℕ → List Row → ℕ
+position w [] = 0
+position w (r ∷ rs) = pick (same w (r .name)) 0 (1 + position w rs)
 
 -- ---- the table as one text, ten bytes a name
 

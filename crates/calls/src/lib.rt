@@ -4,19 +4,18 @@ ghost use Prim.Native.Nat.{_*_};
 ghost use mathlib.Core.List.{[], _∷_};
 ghost use Rattle.text.specs.Lines.{between};
 ghost use Rattle.text.specs.Writing.{Puts};
-ghost use Rattle.calls.specs.Calls.{rows, nameOf, position, wordAt};
+ghost use Rattle.calls.specs.Calls.{rows, nameOf, sentBy, kindName, position, wordAt};
 
 pub mod reading;
+
+use model::Kind;
 
 // A call of the session that is fed nothing.
 pub enum Act {
     PowerOn,
     Pulse,
-    Idn,
-    Select,
-    Exchange,
-    Idle,
-    Echo,
+    // a command, by its kind
+    Sends(Kind),
     Reset,
     Poll,
     Read,
@@ -40,7 +39,8 @@ pub enum Buffer {
     Room,
 }
 
-pub enum Call {
+// What a line asks for, by its first word.
+pub enum Verb {
     Acts(Act),
     Feeds,
     Tells(Question),
@@ -70,7 +70,7 @@ pub enum Fault {
 // A line read: a call with its number and how many bytes it has, or what is wrong.
 pub enum Asked {
     Understood {
-        call: Call,
+        call: Verb,
         number: usize,
         count: usize,
     },
@@ -105,23 +105,32 @@ fn name(names: &[u8], k: u8) -> &[u8]
     text::front(name, text::word_end(name, 0))
 }
 
-// The numbers of the names of the five commands.
-pub const IDN: u8 = 2;
-
-pub const SELECT: u8 = 3;
-
-pub const SEND: u8 = 4;
-
-pub const IDLE: u8 = 5;
-
-pub const ECHO: u8 = 6;
-
 // Puts the name of a number, and nothing for the number of no name.
-pub fn put_name(text: &mut [u8], at: usize, k: u8) -> usize
+fn put_name(text: &mut [u8], at: usize, k: u8) -> usize
     ensures { λ r. ⌜ Puts (now (text .entry)) at (nameOf k ∷ []) r (now (text .exit)) ⌝ }
 {
     let names = NAMES;
     text::put(text, at, name(&names, k))
+}
+
+// The number of the call that sends a command.
+fn sent_by(kind: Kind) -> u8
+    ensures { λ r. ⌜ r ≡ sentBy kind ⌝ }
+{
+    match kind {
+        Kind::Idn => 2,
+        Kind::ProtocolSelect => 3,
+        Kind::SendRecv => 4,
+        Kind::Idle => 5,
+        Kind::Echo => 6,
+    }
+}
+
+// Puts the name of the call that sends a command.
+pub fn put_kind(text: &mut [u8], at: usize, kind: Kind) -> usize
+    ensures { λ r. ⌜ Puts (now (text .entry)) at (kindName kind ∷ []) r (now (text .exit)) ⌝ }
+{
+    put_name(text, at, sent_by(kind))
 }
 
 // The number of the name that the line has from one place to another, or how many names there are for none.

@@ -1,20 +1,20 @@
 // A line read as a call: its name, and what the call takes behind it.
 ghost use mathlib.Core.Path.{_≡_};
-ghost use Rattle.model.specs.Contract.{Is};
+ghost use Rattle.words.specs.Contract.{Is};
 ghost use Rattle.text.specs.Decimal.{readNumber};
-ghost use Rattle.calls.specs.Calls.{callOf, actTakes, questionTakes};
-ghost use Rattle.calls.specs.Calls.{takes as Calls·takes};
-ghost use Rattle.calls.specs.Asking.{asked, counted, interfaced, protocolled, taken};
+ghost use Rattle.calls.specs.Calls.{callOf, shapeOf};
+ghost use Rattle.calls.specs.Asking.{asked, counted, interfaced, protocolled, readShape};
 ghost use Rattle.calls.specs.Asking.{any as Asking·any};
 ghost use Rattle.calls.specs.Asking.{ended as Asking·ended};
 ghost use Rattle.calls.specs.Asking.{numbered as Asking·numbered};
 use crate::Act;
 use crate::Asked;
 use crate::Buffer;
-use crate::Call;
 use crate::Fault;
 use crate::Question;
 use crate::Shape;
+use crate::Verb;
+use model::Kind;
 use text::Bytes;
 use text::Number;
 
@@ -24,90 +24,80 @@ pub const LONGEST: usize = 600;
 // A number with nine digits.
 const GREATEST: usize = 999999999;
 
-fn call_of(k: u8) -> Call
+// The call of a name, by its number.
+fn call_of(k: u8) -> Verb
     ensures { λ r. ⌜ r ≡ callOf k ⌝ }
 {
     match k {
-        0 => Call::Acts(Act::PowerOn),
-        1 => Call::Acts(Act::Pulse),
-        2 => Call::Acts(Act::Idn),
-        3 => Call::Acts(Act::Select),
-        4 => Call::Acts(Act::Exchange),
-        5 => Call::Acts(Act::Idle),
-        6 => Call::Acts(Act::Echo),
-        7 => Call::Acts(Act::Reset),
-        8 => Call::Acts(Act::Poll),
-        9 => Call::Acts(Act::Read),
-        10 => Call::Acts(Act::Calibrate),
-        11 => Call::Acts(Act::Next),
-        12 => Call::Feeds,
-        13 => Call::Tells(Question::Times),
-        14 => Call::Tells(Question::Wait),
-        15 => Call::Tells(Question::Band),
-        16 => Call::Tells(Question::Command),
-        17 => Call::Tells(Question::Flags),
-        18 => Call::Tells(Question::Received),
-        19 => Call::Sets(Buffer::Out),
-        20 => Call::Sets(Buffer::Room),
-        _ => Call::Helps,
+        0 => Verb::Acts(Act::PowerOn),
+        1 => Verb::Acts(Act::Pulse),
+        2 => Verb::Acts(Act::Sends(Kind::Idn)),
+        3 => Verb::Acts(Act::Sends(Kind::ProtocolSelect)),
+        4 => Verb::Acts(Act::Sends(Kind::SendRecv)),
+        5 => Verb::Acts(Act::Sends(Kind::Idle)),
+        6 => Verb::Acts(Act::Sends(Kind::Echo)),
+        7 => Verb::Acts(Act::Reset),
+        8 => Verb::Acts(Act::Poll),
+        9 => Verb::Acts(Act::Read),
+        10 => Verb::Acts(Act::Calibrate),
+        11 => Verb::Acts(Act::Next),
+        12 => Verb::Feeds,
+        13 => Verb::Tells(Question::Times),
+        14 => Verb::Tells(Question::Wait),
+        15 => Verb::Tells(Question::Band),
+        16 => Verb::Tells(Question::Command),
+        17 => Verb::Tells(Question::Flags),
+        18 => Verb::Tells(Question::Received),
+        19 => Verb::Sets(Buffer::Out),
+        20 => Verb::Sets(Buffer::Room),
+        _ => Verb::Helps,
     }
 }
 
-fn act_takes(act: Act) -> Shape
-    ensures { λ r. ⌜ r ≡ actTakes act ⌝ }
+// What it takes.
+fn shape_of(k: u8) -> Shape
+    ensures { λ r. ⌜ r ≡ shapeOf k ⌝ }
 {
-    match act {
-        Act::PowerOn => Shape::Interface,
-        Act::Pulse => Shape::Nothing,
-        Act::Idn => Shape::Nothing,
-        Act::Select => Shape::Protocol,
-        Act::Exchange => Shape::Any,
-        Act::Idle => Shape::Exactly { wanted: 14 },
-        Act::Echo => Shape::Nothing,
-        Act::Reset => Shape::Nothing,
-        Act::Poll => Shape::Nothing,
-        Act::Read => Shape::Numbered {
+    match k {
+        0 => Shape::Interface,
+        1 => Shape::Nothing,
+        2 => Shape::Nothing,
+        3 => Shape::Protocol,
+        4 => Shape::Any,
+        5 => Shape::Exactly { wanted: 14 },
+        6 => Shape::Nothing,
+        7 => Shape::Nothing,
+        8 => Shape::Nothing,
+        9 => Shape::Numbered {
             greatest: GREATEST,
             wanted: 0,
         },
-        Act::Calibrate => Shape::Numbered {
+        10 => Shape::Numbered {
             greatest: 255,
             wanted: 10,
         },
-        Act::Next => Shape::Nothing,
-    }
-}
-
-fn question_takes(question: Question) -> Shape
-    ensures { λ r. ⌜ r ≡ questionTakes question ⌝ }
-{
-    match question {
-        Question::Times => Shape::Exactly { wanted: 14 },
-        Question::Wait => Shape::Exactly { wanted: 14 },
-        Question::Band => Shape::Exactly { wanted: 1 },
-        Question::Command => Shape::Any,
-        Question::Flags => Shape::Exactly { wanted: 1 },
-        Question::Received => Shape::Any,
-    }
-}
-
-fn takes(call: Call) -> Shape
-    ensures { λ r. ⌜ r ≡ Calls·takes call ⌝ }
-{
-    match call {
-        Call::Acts(act) => act_takes(act),
-        Call::Feeds => Shape::Any,
-        Call::Tells(question) => question_takes(question),
-        Call::Sets(_) => Shape::Numbered {
+        11 => Shape::Nothing,
+        12 => Shape::Any,
+        13 => Shape::Exactly { wanted: 14 },
+        14 => Shape::Exactly { wanted: 14 },
+        15 => Shape::Exactly { wanted: 1 },
+        16 => Shape::Any,
+        17 => Shape::Exactly { wanted: 1 },
+        18 => Shape::Any,
+        19 => Shape::Numbered {
             greatest: LONGEST,
             wanted: 0,
         },
-        Call::Helps => Shape::Nothing,
+        20 => Shape::Numbered {
+            greatest: LONGEST,
+            wanted: 0,
+        },
+        _ => Shape::Nothing,
     }
 }
 
 // The call, if the line ends here.
-fn ended(call: Call, number: usize, line: &[u8], from: usize) -> Asked
+fn ended(call: Verb, number: usize, line: &[u8], from: usize) -> Asked
     ensures { λ r. ⌜ r ≡ Asking·ended call number (now (line .entry)) from ⌝ }
 {
     let next = text::skip(line, from);
@@ -122,7 +112,7 @@ fn ended(call: Call, number: usize, line: &[u8], from: usize) -> Asked
 }
 
 // spi is 0, uart is 1.
-fn interface(call: Call, line: &[u8], from: usize) -> Asked
+fn interface(call: Verb, line: &[u8], from: usize) -> Asked
     ensures { λ r. ⌜ r ≡ interfaced call (now (line .entry)) from ⌝ }
 {
     let start = text::skip(line, from);
@@ -136,7 +126,7 @@ fn interface(call: Call, line: &[u8], from: usize) -> Asked
     Asked::Wrong(Fault::NoInterface(start))
 }
 
-fn any(call: Call, number: usize, line: &[u8], from: usize, bytes: &mut [u8]) -> Asked
+fn any(call: Verb, number: usize, line: &[u8], from: usize, bytes: &mut [u8]) -> Asked
     ensures { λ r. ⌜ Is (Asking·any call number (now (line .entry)) from (now (bytes .entry))) r (now (bytes .exit)) ⌝ }
 {
     match text::read_bytes(line, from, bytes) {
@@ -197,7 +187,7 @@ fn with_protocol(asked: Asked) -> Asked
 }
 
 fn numbered(
-    call: Call,
+    call: Verb,
     line: &[u8],
     from: usize,
     greatest: usize,
@@ -224,8 +214,8 @@ fn numbered(
 }
 
 // What a call takes, read from a place on.
-fn take(call: Call, shape: Shape, line: &[u8], from: usize, bytes: &mut [u8]) -> Asked
-    ensures { λ r. ⌜ Is (taken call shape (now (line .entry)) from (now (bytes .entry))) r (now (bytes .exit)) ⌝ }
+fn take(call: Verb, shape: Shape, line: &[u8], from: usize, bytes: &mut [u8]) -> Asked
+    ensures { λ r. ⌜ Is (readShape call shape (now (line .entry)) from (now (bytes .entry))) r (now (bytes .exit)) ⌝ }
 {
     match shape {
         Shape::Nothing => ended(call, 0, line, from),
@@ -245,8 +235,7 @@ pub fn read(line: &[u8], bytes: &mut [u8]) -> Asked
     let end = text::word_end(line, start);
     let k = crate::number_of(line, start, end);
     if k < crate::CALLS {
-        let call = call_of(k);
-        return take(call, takes(call), line, end, bytes);
+        return take(call_of(k), shape_of(k), line, end, bytes);
     }
     Asked::Wrong(Fault::Unknown)
 }

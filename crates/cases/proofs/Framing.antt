@@ -22,7 +22,7 @@ pub levels : Levels
 levels = refl
 
 pub fields : Fields
-fields = record { protocols = refl; parameters = refl; payloads = refl; no-fields = refl; reads = refl; spi = refl; uart = refl }
+fields = record { numbers = refl; protocols = refl; parameters = refl; payloads = refl; no-fields = refl; reads = refl; spi = refl; uart = refl }
 
 pub written : Written-bytes
 written =

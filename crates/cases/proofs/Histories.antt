@@ -42,7 +42,7 @@ read-uart : Read Uart
 read-uart =
     record {
       none = refl;
-      first = refl;
+      begun = refl;
       in-the-third = refl;
       answered = refl;
       error-code = refl;
@@ -60,7 +60,7 @@ read-spi : Read Spi
 read-spi =
     record {
       none = refl;
-      first = refl;
+      begun = refl;
       in-the-third = refl;
       answered = refl;
       error-code = refl;
@@ -78,7 +78,7 @@ pub every-reading : EveryReading
 every-reading = (read-uart, read-spi, record { spi = refl; uart = refl })
 
 pub last : Last
-last = record { answers = refl; refusals = refl; none = refl }
+last = record { answers = refl; by-refusals = refl; by-answers = refl; none = refl }
 
 pub driven : Driven
-driven = record { exchanged = refl; said = refl; ends = refl }
+driven = record { exchanged = refl; said = refl; ends-so = refl }

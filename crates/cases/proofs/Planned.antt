@@ -56,6 +56,7 @@ searching =
       no-further = refl;
       no-lower = refl;
       none-lower = refl;
+      other-wakes = refl;
       unbegun = refl;
     }
 

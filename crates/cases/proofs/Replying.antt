@@ -4,9 +4,9 @@ use Prim.Native.Nat.{ℕ}
 use native.Mathlib.Omega.{arith}
 use mathlib.Core.Path.{_≡_, refl}
 use mathlib.Core.List.{[], _∷_}
-use Rattle.model.specs.declared.Awaited.{Awaited}
-use Rattle.model.specs.Replies.{Reply, Reply.idn, Reply.protocolSelect, Reply.sendRecv, Reply.idle, Reply.echo, Reply.error}
-use Rattle.cases.specs.Awaiting.{toSend, toEcho}
+use Rattle.model.specs.declared.Form.{Form}
+use Rattle.model.specs.declared.Form.the-variants.{Counted, Single}
+use Rattle.model.specs.Replies.{exactly, counted, waking, single, error}
 use Rattle.cases.specs.ByBytes.{Bytes, Related, Taken, fifteen}
 use Rattle.cases.specs.Replying.{EveryState, EveryCut, EveryBeginning, Rooms}
 
@@ -25,15 +25,15 @@ bytes =
 pub related : Related
 related =
     record {
-      to-idn = Reply.idn fifteen refl;
-      to-select = Reply.protocolSelect 3;
-      to-send = Reply.sendRecv 3 (0xC1 ∷ 0xC2 ∷ 0xC3 ∷ []) refl;
-      to-idle = Reply.idle 0xDB 0x08 refl;
-      to-echo = Reply.echo;
-      error = Reply.error toSend 0x8E apart refl;
+      to-idn = exactly 15 fifteen refl;
+      to-select = exactly 0 [] refl;
+      to-send = counted 3 (0xC1 ∷ 0xC2 ∷ 0xC3 ∷ []) refl;
+      to-idle = waking 0xDB 0x08 refl;
+      to-echo = single;
+      error = error Counted 0x8E apart refl;
     }
   where
-    apart : _≡_ {A = Awaited} toSend toEcho → ⊥
+    apart : _≡_ {A = Form} Counted Single → ⊥
     apart same = let z : _≡_ {A = ℕ} 0 1 = cc in omega arith
 
 pub taken : Taken

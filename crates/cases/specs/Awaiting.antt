@@ -3,17 +3,21 @@
 use Prim.Native.Nat.{ℕ}
 use mathlib.Core.Bool.{Bool, true, false}
 use mathlib.Core.List.{List, [], _∷_}
+use lib.Dec.{eqb}
 use Rattle.model.specs.declared.Settings.{Settings}
-use Rattle.model.specs.declared.Part.{Part}
-use Rattle.model.specs.declared.Frame.{Frame}
-use Rattle.model.specs.declared.Frame.the-variants.{Idn, ProtocolSelect, SendRecv, Idle, Echo}
+use Rattle.words.specs.declared.Part.{Part}
 use Rattle.model.specs.declared.Reading.{Reading}
 use Rattle.model.specs.declared.Reading.the-variants.{Taken}
 use Rattle.model.specs.declared.Awaited.{Awaited}
+use Rattle.model.specs.declared.Wake.{Wake}
+use Rattle.model.specs.declared.Wake.the-variants.{Timeout, Tag, IrqIn, SpiSs}
+use Rattle.model.specs.declared.End.{End}
 use Rattle.model.specs.declared.Verdict.{Verdict}
 use Rattle.model.specs.declared.Answer.{Answer}
+use Rattle.words.specs.Words.{pick}
 use Rattle.model.specs.Refusals.{numberOf, valuesOf}
-use Rattle.model.specs.Frames.{Command, idn, protocolSelect, sendRecv, idle, echo, readCommand, command}
+use Rattle.model.specs.Frames.{Command, idn, protocolSelect, sendRecv, idle, echo, readCommand}
+use Rattle.model.specs.Frames.{commandOf as namedBy}
 use Rattle.model.specs.Session.{awaitedOf}
 
 -- ---- awaited commands
@@ -50,15 +54,28 @@ toIdle source = awaitedOf (idle (sleeping source))
 abbrev pub toEcho : Awaited
 toEcho = awaitedOf echo
 
--- ---- a good reply to Idle with an event
+-- ---- how a reply ends, as the reply table says it
 
--- as the reply table says it
+abbrev pub good : Verdict
+good = Verdict.Ended End.Good
+
+abbrev pub failed : ℕ → Verdict
+failed code = Verdict.Ended (End.Error code)
+
+-- by the byte at a place of the reply
+abbrev pub wrong : ℕ → ℕ → Verdict
+wrong place byte = Verdict.Ended (End.Malformed place byte)
+
+-- what woke the chip, by the event: 01 timeout, 02 tag, 08 IRQ_IN, and 10 SPI_SS
+abbrev pub wakeBy : ℕ → Wake
+wakeBy event = pick (eqb event 0x10) SpiSs (pick (eqb event 0x08) IrqIn (pick (eqb event 0x02) Tag Timeout))
+
 abbrev pub waking : ℕ → Verdict
-waking event = Verdict.Good
+waking event = Verdict.Ended (End.Woken (wakeBy event))
 
 -- as a session answers it, and a calibration that goes on
 abbrev pub woke : ℕ → Answer
-woke event = Answer.Good
+woke event = Answer.Woken (wakeBy event)
 
 -- ---- answers and verdicts
 
@@ -68,20 +85,25 @@ toldBy Answer.Done = []
 toldBy (Answer.Sent n) = []
 toldBy Answer.More = []
 toldBy Answer.Good = []
+toldBy (Answer.Woken wake) = []
 toldBy (Answer.Reference reference commands) = 0 ∷ reference ∷ commands ∷ []
 toldBy (Answer.Refused k) = numberOf k ∷ valuesOf k
 
+abbrev pub isWrong : End → Bool
+isWrong End.Good = false
+isWrong (End.Woken wake) = false
+isWrong (End.Error code) = false
+isWrong (End.Malformed place byte) = true
+
 abbrev pub isMalformed : Verdict → Bool
 isMalformed Verdict.More = false
-isMalformed Verdict.Good = false
-isMalformed (Verdict.Error code) = false
-isMalformed Verdict.Malformed = true
+isMalformed (Verdict.Ended e) = isWrong e
 isMalformed Verdict.NoRoom = false
 
 -- ---- the command reader
 
 abbrev pub commandBy : List ℕ → Reading → List Command
-commandBy xs (Taken f) = command xs f ∷ []
+commandBy xs (Taken f) = namedBy xs f ∷ []
 commandBy xs (Reading.Refused k) = []
 
 -- the one command that bytes are read as, or none
@@ -91,17 +113,10 @@ commandOf xs = commandBy xs (readCommand xs)
 abbrev pub startAndCount : Part → List ℕ
 startAndCount p = p .start ∷ p .count ∷ []
 
-abbrev pub partIn : Frame → List ℕ
-partIn Idn = []
-partIn (ProtocolSelect protocol parameters) = startAndCount parameters
-partIn (SendRecv payload) = startAndCount payload
-partIn (Idle s) = []
-partIn Echo = []
-
 abbrev pub partBy : Reading → List ℕ
-partBy (Taken f) = partIn f
+partBy (Taken f) = startAndCount (f .payload)
 partBy (Reading.Refused k) = []
 
--- where the parameters or the data stand in a frame, and how many they are
+-- where the data stand in a frame, and how many they are
 abbrev pub partOf : List ℕ → List ℕ
 partOf xs = partBy (readCommand xs)

@@ -5,19 +5,23 @@ use mathlib.Core.Path.{_≡_}
 use mathlib.Core.Bool.{Bool, true, false}
 use mathlib.Core.List.{List, [], _∷_, map}
 use Rattle.model.specs.declared.Guard.{Guard}
-use Rattle.model.specs.declared.Guard.the-variants.{Band}
-use Rattle.model.specs.Refusals.{numberOf}
+use Rattle.model.specs.declared.Guard.the-variants.{Band, NoBand}
+use Rattle.model.specs.Refusals.{Number, none, number, bandNumber}
 use Rattle.model.specs.Calibration.{band}
 use Rattle.cases.specs.Replies.{those}
 
+abbrev pub numbered : Number → List ℕ
+numbered none = []
+numbered (number n) = n ∷ []
+
 -- low and high, or the number of the refusal
 abbrev pub shown : Guard → List ℕ
-shown (Band low high) = low ∷ high ∷ []
-shown (Guard.Refused k) = numberOf k ∷ []
+shown (Band low high) = low ∷ high ∷ numbered (bandNumber (Band low high))
+shown NoBand = numbered (bandNumber NoBand)
 
 abbrev pub isBand : Guard → Bool
 isBand (Band low high) = true
-isBand (Guard.Refused k) = false
+isBand NoBand = false
 
 pub record Bands : Type 0 where
   pub ends :

@@ -5,10 +5,11 @@ use mathlib.Core.Path.{_≡_}
 use mathlib.Core.Bool.{true, not}
 use mathlib.Core.List.{List, [], _∷_, _++_, map}
 use Rattle.model.specs.declared.Awaited.{Awaited}
-use Rattle.model.specs.declared.Verdict.the-variants.{More, Good, Error}
+use Rattle.model.specs.declared.End.the-variants.{Good, Woken, Error}
+use Rattle.model.specs.declared.Verdict.the-variants.{More}
 use Rattle.model.specs.Replies.{Reply, meaning, reply}
-use Rattle.cases.specs.Awaiting.{toIdn, toSelect, toSend, toIdle, toEcho, waking, isMalformed}
-use Rattle.cases.specs.Replies.{those, codes, malformed}
+use Rattle.cases.specs.Awaiting.{toIdn, toSelect, toSend, toIdle, toEcho, good, failed, wakeBy, waking, isMalformed}
+use Rattle.cases.specs.Replies.{those, codes, bad, AllBad}
 
 -- ---- every byte at each place
 
@@ -51,7 +52,7 @@ pub record Related : Type 0 where
   pub to-idn : Reply toIdn (0x00 ∷ 0x0F ∷ fifteen) Good fifteen
   pub to-select : Reply (toSelect 3) (0x00 ∷ 0x00 ∷ []) Good []
   pub to-send : Reply toSend (0x80 ∷ 0x03 ∷ 0xC1 ∷ 0xC2 ∷ 0xC3 ∷ []) Good (0xC1 ∷ 0xC2 ∷ 0xC3 ∷ [])
-  pub to-idle : Reply (toIdle 0xDB) (0x00 ∷ 0x01 ∷ 0x08 ∷ []) (waking 0x08) (0x08 ∷ [])
+  pub to-idle : Reply (toIdle 0xDB) (0x00 ∷ 0x01 ∷ 0x08 ∷ []) (Woken (wakeBy 0x08)) (0x08 ∷ [])
   pub to-echo : Reply toEcho (0x55 ∷ []) Good []
   pub error : Reply toSend (0x8E ∷ 0x00 ∷ []) (Error 0x8E) []
 
@@ -63,19 +64,19 @@ pub record Taken : Type 0 where
       reply toIdn (0x00 ∷ 0x0F ∷ fifteen ++ 0x99 ∷ 0x98 ∷ []) ∷ reply (toSelect 3) (0x00 ∷ 0x00 ∷ 0x99 ∷ 0x98 ∷ []) ∷
       reply toSend (0x80 ∷ 0x03 ∷ 0xC1 ∷ 0xC2 ∷ 0xC3 ∷ 0x99 ∷ 0x98 ∷ []) ∷ reply toSend (0x80 ∷ 0x00 ∷ 0x99 ∷ 0x98 ∷ []) ∷
       reply (toIdle 0xDB) (0x00 ∷ 0x01 ∷ 0x08 ∷ 0x99 ∷ 0x98 ∷ []) ∷ reply toEcho (0x55 ∷ 0x99 ∷ 0x98 ∷ []) ∷ [] ≡
-      meaning Good fifteen 17 ∷ meaning Good [] 2 ∷
-      meaning Good (0xC1 ∷ 0xC2 ∷ 0xC3 ∷ []) 5 ∷ meaning Good [] 2 ∷
-      meaning (waking 0x08) (0x08 ∷ []) 3 ∷ meaning Good [] 1 ∷ []
+      meaning good fifteen 17 ∷ meaning good [] 2 ∷
+      meaning good (0xC1 ∷ 0xC2 ∷ 0xC3 ∷ []) 5 ∷ meaning good [] 2 ∷
+      meaning (waking 0x08) (0x08 ∷ []) 3 ∷ meaning good [] 1 ∷ []
   pub error :
       reply toIdn (0x85 ∷ 0x00 ∷ 0x99 ∷ 0x98 ∷ []) ∷ reply (toSelect 3) (0x83 ∷ 0x00 ∷ 0x99 ∷ []) ∷ reply toSend (0x8E ∷ 0x00 ∷ 0x99 ∷ []) ∷
       reply (toIdle 0xDB) (0x86 ∷ 0x00 ∷ 0x99 ∷ []) ∷ [] ≡
-      meaning (Error 0x85) [] 2 ∷ meaning (Error 0x83) [] 2 ∷ meaning (Error 0x8E) [] 2 ∷ meaning (Error 0x86) [] 2 ∷ []
+      meaning (failed 0x85) [] 2 ∷ meaning (failed 0x83) [] 2 ∷ meaning (failed 0x8E) [] 2 ∷ meaning (failed 0x86) [] 2 ∷ []
   -- through the first malformed byte
   pub wrong :
-      reply toIdn (0x84 ∷ 0x00 ∷ 0x99 ∷ []) ∷ reply toIdn (0x85 ∷ 0x85 ∷ 0x99 ∷ []) ∷ reply toIdn (0x00 ∷ 0x10 ∷ 0x99 ∷ []) ∷
-      reply (toSelect 3) (0x00 ∷ 0x02 ∷ 0x99 ∷ []) ∷ reply toSend (0x81 ∷ 0x00 ∷ 0x99 ∷ []) ∷ reply toSend (0x8E ∷ 0x01 ∷ 0x99 ∷ []) ∷
-      reply (toIdle 0xDB) (0x00 ∷ 0x01 ∷ 0x04 ∷ 0x99 ∷ []) ∷ reply toEcho (0x54 ∷ 0x55 ∷ 0x99 ∷ []) ∷ [] ≡
-      malformed 0 ∷ malformed 1 ∷ malformed 1 ∷ malformed 1 ∷ malformed 0 ∷ malformed 1 ∷ malformed 2 ∷ malformed 0 ∷ []
+      AllBad (
+      bad toIdn (0x84 ∷ 0x00 ∷ 0x99 ∷ []) 0 ∷ bad toIdn (0x85 ∷ 0x85 ∷ 0x99 ∷ []) 1 ∷ bad toIdn (0x00 ∷ 0x10 ∷ 0x99 ∷ []) 1 ∷
+      bad (toSelect 3) (0x00 ∷ 0x02 ∷ 0x99 ∷ []) 1 ∷ bad toSend (0x81 ∷ 0x00 ∷ 0x99 ∷ []) 0 ∷ bad toSend (0x8E ∷ 0x01 ∷ 0x99 ∷ []) 1 ∷
+      bad (toIdle 0xDB) (0x00 ∷ 0x01 ∷ 0x04 ∷ 0x99 ∷ []) 2 ∷ bad toEcho (0x54 ∷ 0x55 ∷ 0x99 ∷ []) 0 ∷ [])
   -- or all
   pub cut :
       reply toIdn [] ∷ reply toIdn (0x00 ∷ []) ∷ reply toIdn (0x00 ∷ 0x0F ∷ []) ∷ reply toIdn (0x00 ∷ 0x0F ∷ 0x31 ∷ 0x32 ∷ []) ∷ reply toIdn (0x85 ∷ []) ∷

@@ -3,7 +3,7 @@
 use Prim.Native.Nat.{ℕ}
 use mathlib.Core.Path.{_≡_}
 use mathlib.Core.List.{List, [], _∷_, map}
-use Rattle.model.specs.Words.{bit, within, pasted, Bytes, concat}
+use Rattle.words.specs.Words.{bit, within, pasted, Bytes, concat}
 use Rattle.cases.specs.Replies.{those}
 
 -- ---- bytes

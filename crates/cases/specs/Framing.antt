@@ -8,11 +8,13 @@ use lib.Dec.{ltb, leb, eqb}
 use lib.ListN.{replicate}
 use Rattle.model.specs.declared.Interface.the-variants.{Spi, Uart}
 use Rattle.model.specs.declared.Settings.{Settings}
+use Rattle.model.specs.declared.Kind.{Kind}
+use Rattle.model.specs.declared.Kind.the-variants.{Idn, ProtocolSelect, Idle, Echo}
 use Rattle.model.specs.declared.Refusal.the-variants.{Short, Invalid}
 use Rattle.model.specs.declared.Reading.{Reading}
 use Rattle.model.specs.declared.Written.{Written}
 use Rattle.model.specs.declared.Written.the-variants.{Sent}
-use Rattle.model.specs.Frames.{Command, idn, protocolSelect, sendRecv, idle, echo, prescaler, sourceAllowed, settingsAllowed, allowed, send, reset, poll, read, bytes, permitted, write, received, flags, settings, readCommand}
+use Rattle.model.specs.Frames.{Command, idn, protocolSelect, sendRecv, idle, echo, prescaler, sourceAllowed, settingsAllowed, allowed, permits, send, reset, poll, read, bytes, permitted, write, received, flags, settings, readCommand}
 use Rattle.cases.specs.Awaiting.{commandOf, partOf}
 use Rattle.cases.specs.Replies.{those}
 use Rattle.cases.specs.Published.{ran}
@@ -61,8 +63,10 @@ pub record Framed : Type 0 where
   pub uart : map (λ (c : Command). bytes Uart (send c)) commands ≡ frames
   pub spi : map (λ (c : Command). bytes Spi (send c)) commands ≡ map (λ (xs : List ℕ). 0x00 ∷ xs) frames
   pub back : map commandOf frames ≡ map (λ (c : Command). c ∷ []) commands
-  -- parameters stand behind code, length and protocol, data behind code and length
-  pub parts : map partOf frames ≡ [] ∷ (3 ∷ 2 ∷ []) ∷ (3 ∷ 8 ∷ []) ∷ (2 ∷ 3 ∷ []) ∷ (2 ∷ 0 ∷ []) ∷ [] ∷ [] ∷ []
+  -- data stand behind code and length
+  pub parts :
+      map partOf frames ≡
+      (2 ∷ 0 ∷ []) ∷ (2 ∷ 3 ∷ []) ∷ (2 ∷ 9 ∷ []) ∷ (2 ∷ 3 ∷ []) ∷ (2 ∷ 0 ∷ []) ∷ (2 ∷ 14 ∷ []) ∷ (1 ∷ 0 ∷ []) ∷ []
   pub gathered : settings distinctData ≡ distinct
   -- data that are not there count as zeros, and no frame has them
   pub missing : settings [] ≡ settings (replicate 14 0)
@@ -147,7 +151,12 @@ Levels =
     ≡ true ∷ true ∷ false ∷ true ∷ true ∷ false ∷ true ∷ true ∷ true ∷ false ∷ false ∷ false ∷ []
 
 -- protocols 0 to 4, 1 to 8 parameters, and up to 255 bytes of data
+-- how many data bytes a command takes, of those below 20, where each is 03
+abbrev pub lengths : Kind → List ℕ
+lengths k = those (λ (n : ℕ). permits k (replicate n 0x03)) 20 []
+
 pub record Fields : Type 0 where
+  pub numbers : map lengths (Idn ∷ ProtocolSelect ∷ Idle ∷ Echo ∷ []) ≡ (0 ∷ []) ∷ (2 ∷ 3 ∷ 4 ∷ 5 ∷ 6 ∷ 7 ∷ 8 ∷ 9 ∷ []) ∷ (14 ∷ []) ∷ (0 ∷ []) ∷ []
   pub protocols : those (λ (p : ℕ). allowed (protocolSelect p (0x05 ∷ []))) 256 [] ≡ 0 ∷ 1 ∷ 2 ∷ 3 ∷ 4 ∷ []
   pub parameters : those (λ (n : ℕ). allowed (protocolSelect 2 (replicate n 0xEE))) 32 [] ≡ 1 ∷ 2 ∷ 3 ∷ 4 ∷ 5 ∷ 6 ∷ 7 ∷ 8 ∷ []
   pub payloads :

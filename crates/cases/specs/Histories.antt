@@ -1,41 +1,46 @@
--- What a history says of a calibration: the commands given out, the bytes fed to each, the answers, and what was consumed.
+-- What a history says: the commands given out, the bytes fed to each, what was consumed of them, and a calibration's answers.
 -- Assumes nothing.
 use Prim.Native.Nat.{ℕ}
 use mathlib.Core.Path.{_≡_}
+use mathlib.Core.Bool.{true, false}
 use mathlib.Core.List.{List, [], _∷_, _++_, map}
 use lib.Dec.{leb}
 use lib.ListN.{replicate}
 use Rattle.model.specs.declared.Interface.{Interface}
 use Rattle.model.specs.declared.Interface.the-variants.{Spi, Uart}
 use Rattle.model.specs.declared.Refusal.{Refusal}
-use Rattle.model.specs.declared.Refusal.the-variants.{Short, Invalid, Unready, Busy, Malformed, Unawaited, ChipError, LowestTimeout, HighestTag, NoLevel, NoBand, CalibrationError}
+use Rattle.model.specs.declared.End.the-variants.{Error}
 use Rattle.model.specs.declared.Answer.{Answer}
 use Rattle.model.specs.declared.Answer.the-variants.{Done, Sent, More, Good, Reference, Refused}
 use Rattle.model.specs.Frames.{idn, echo}
 use Rattle.model.specs.Session.{Call, power-on, pulse, request, reset, poll, read, calibrate, next, feed, unpowered}
-use Rattle.model.specs.History.{Event, Exchange, exchange, exchanges, Latest, nothing, since, latest, commands, tag, timeout, error, Told, told, answers}
-use Rattle.model.specs.Talk.{calibrated, last}
-use Rattle.cases.specs.Awaiting.{toIdn, toIdle, toEcho}
+use Rattle.model.specs.History.{Event, Owner, requested, first, later, Exchange, exchange, exchanges, commands, Told, told, answers}
+use Rattle.model.specs.Promises.{tag, timeout}
+use Rattle.model.specs.Talk.{ends, calibrated, last}
+use Rattle.cases.specs.Awaiting.{toIdn, toIdle, toEcho, woke}
 use Rattle.cases.specs.Starred.{room, singly}
 use Rattle.cases.specs.Sessions.{after}
 use Rattle.cases.specs.Planned.{planned, begins}
+use Rattle.cases.specs.Published.{refusals}
 use Rattle.cases.specs.Refusing.{narrow}
 
 -- ---- readings
 
--- what a history of calls is read as
+-- what a history of calls is read as: all exchanges, how many of them are the newest calibration's, and its answers
 pub record Readings : Type 0 where
   pub exchanged : List Exchange
   pub count : ℕ
   pub said : List Told
-  pub newest : Latest
 
-abbrev pub readings : List Exchange → ℕ → List Told → Latest → Readings
-readings es n ts l = record { exchanged = es; count = n; said = ts; newest = l }
+abbrev pub readings : List Exchange → ℕ → List Told → Readings
+readings es n ts = record { exchanged = es; count = n; said = ts }
 
 abbrev pub readOff : Interface → List Call → Readings
-readOff i calls =
-    readings (exchanges (after i calls .history)) (commands (after i calls .history)) (answers (after i calls .history)) (latest (after i calls .history))
+readOff i calls = readings (exchanges (after i calls .history)) (commands (after i calls .history)) (answers (after i calls .history))
+
+-- an Idle command of the plan with p = 3, the bytes fed since it, and how many were consumed
+abbrev pub trial : Owner → List ℕ → ℕ → Exchange
+trial owner bytes used = exchange owner (toIdle 0xC3) bytes used
 
 -- ---- a calibration with p = 3
 
@@ -51,67 +56,62 @@ disturbed =
     feed (0x01 ∷ 0x02 ∷ 0x98 ∷ []) room ∷ feed (0x55 ∷ []) room ∷ next (replicate 15 0xEE) ∷ reset [] ∷ []
 
 pub record Read (i : Interface) : Type 0 where
-  pub none : readOff i (pulse ∷ []) ≡ readings [] 0 [] nothing
-  pub first : readOff i begins ≡ readings (exchange 0xC3 0x00 [] ∷ []) 1 [] (since (toIdle 0xC3) [] 0)
+  pub none : readOff i (pulse ∷ []) ≡ readings [] 0 []
+  pub begun : readOff i begins ≡ readings (trial (first 0x00) [] 0 ∷ []) 1 []
   pub in-the-third :
       readOff i third ≡
-      readings (exchange 0xC3 0x7C [] ∷ exchange 0xC3 0xFC (0x00 ∷ 0x01 ∷ 0x01 ∷ []) ∷ exchange 0xC3 0x00 (0x00 ∷ 0x01 ∷ 0x02 ∷ 0x99 ∷ []) ∷ []) 3
-      (told 0xFC timeout ∷ told 0x00 tag ∷ []) (since (toIdle 0xC3) [] 0)
+      readings (trial (later 0x7C) [] 0 ∷ trial (later 0xFC) (0x00 ∷ 0x01 ∷ 0x01 ∷ []) 3 ∷ trial (first 0x00) (0x00 ∷ 0x01 ∷ 0x02 ∷ 0x99 ∷ []) 3 ∷ []) 3
+      (told 0xFC timeout ∷ told 0x00 tag ∷ [])
   pub answered :
       readOff i (third ++ feed (0x00 ∷ 0x01 ∷ []) room ∷ feed (0x02 ∷ 0x97 ∷ []) room ∷ []) ≡
       readings (
-      exchange 0xC3 0x7C (0x00 ∷ 0x01 ∷ 0x02 ∷ 0x97 ∷ []) ∷ exchange 0xC3 0xFC (0x00 ∷ 0x01 ∷ 0x01 ∷ []) ∷
-      exchange 0xC3 0x00 (0x00 ∷ 0x01 ∷ 0x02 ∷ 0x99 ∷ []) ∷ []) 3
-      (told 0x7C tag ∷ told 0xFC timeout ∷ told 0x00 tag ∷ []) (since (toIdle 0xC3) (0x00 ∷ 0x01 ∷ 0x02 ∷ 0x97 ∷ []) 3)
+      trial (later 0x7C) (0x00 ∷ 0x01 ∷ 0x02 ∷ 0x97 ∷ []) 3 ∷ trial (later 0xFC) (0x00 ∷ 0x01 ∷ 0x01 ∷ []) 3 ∷
+      trial (first 0x00) (0x00 ∷ 0x01 ∷ 0x02 ∷ 0x99 ∷ []) 3 ∷ []) 3
+      (told 0x7C tag ∷ told 0xFC timeout ∷ told 0x00 tag ∷ [])
   pub error-code :
       readOff i (begins ++ feed (0x8D ∷ []) room ∷ feed (0x00 ∷ 0x96 ∷ []) room ∷ []) ≡
-      readings (exchange 0xC3 0x00 (0x8D ∷ 0x00 ∷ 0x96 ∷ []) ∷ []) 1 (told 0x00 (error 0x8D) ∷ []) (since (toIdle 0xC3) (0x8D ∷ 0x00 ∷ 0x96 ∷ []) 2)
+      readings (trial (first 0x00) (0x8D ∷ 0x00 ∷ 0x96 ∷ []) 2 ∷ []) 1 (told 0x00 (Error 0x8D) ∷ [])
   -- no answer: it is malformed, or not whole
   pub malformed-byte :
-      readOff i (begins ++ feed (0x00 ∷ 0x02 ∷ 0x95 ∷ []) room ∷ []) ≡
-      readings (exchange 0xC3 0x00 (0x00 ∷ 0x02 ∷ 0x95 ∷ []) ∷ []) 1 [] (since (toIdle 0xC3) (0x00 ∷ 0x02 ∷ 0x95 ∷ []) 2)
-  pub not-whole :
-      readOff i (begins ++ feed (0x00 ∷ 0x01 ∷ []) room ∷ []) ≡
-      readings (exchange 0xC3 0x00 (0x00 ∷ 0x01 ∷ []) ∷ []) 1 [] (since (toIdle 0xC3) (0x00 ∷ 0x01 ∷ []) 2)
+      readOff i (begins ++ feed (0x00 ∷ 0x02 ∷ 0x95 ∷ []) room ∷ []) ≡ readings (trial (first 0x00) (0x00 ∷ 0x02 ∷ 0x95 ∷ []) 2 ∷ []) 1 []
+  pub not-whole : readOff i (begins ++ feed (0x00 ∷ 0x01 ∷ []) room ∷ []) ≡ readings (trial (first 0x00) (0x00 ∷ 0x01 ∷ []) 2 ∷ []) 1 []
   pub among-others :
-      readOff i disturbed ≡
-      readings (exchange 0xC3 0x00 (0x00 ∷ 0x01 ∷ 0x02 ∷ 0x98 ∷ 0x55 ∷ []) ∷ []) 1 (told 0x00 tag ∷ [])
-      (since (toIdle 0xC3) (0x00 ∷ 0x01 ∷ 0x02 ∷ 0x98 ∷ 0x55 ∷ []) 3)
+      readOff i disturbed ≡ readings (trial (first 0x00) (0x00 ∷ 0x01 ∷ 0x02 ∷ 0x98 ∷ 0x55 ∷ []) 3 ∷ []) 1 (told 0x00 tag ∷ [])
   -- a calibration that ended, a request after it, and another start, with p = 1
   pub ended :
       readOff i (begins ++ feed (0x00 ∷ 0x01 ∷ 0x01 ∷ []) room ∷ request echo room ∷ feed (0x55 ∷ 0x94 ∷ []) room ∷ []) ≡
-      readings (exchange 0xC3 0x00 (0x00 ∷ 0x01 ∷ 0x01 ∷ 0x55 ∷ 0x94 ∷ []) ∷ []) 1 (told 0x00 timeout ∷ []) (since toEcho (0x55 ∷ 0x94 ∷ []) 1)
+      readings (exchange requested toEcho (0x55 ∷ 0x94 ∷ []) 1 ∷ trial (first 0x00) (0x00 ∷ 0x01 ∷ 0x01 ∷ []) 3 ∷ []) 1 (told 0x00 timeout ∷ [])
   pub again :
-      readOff i (third ++ feed (0x82 ∷ 0x00 ∷ []) room ∷ calibrate (planned 1) room ∷ feed (0x00 ∷ []) room ∷ []) ≡
-      readings (exchange 0x43 0x00 (0x00 ∷ []) ∷ []) 1 [] (since (toIdle 0x43) (0x00 ∷ []) 1)
-  pub powered : readOff i (third ++ power-on i ∷ []) ≡ readings [] 0 [] nothing
-  pub powered-before : readOff i (third ++ power-on i ∷ pulse ∷ request idn room ∷ feed (0x00 ∷ 0x0F ∷ []) room ∷ []) ≡ readings [] 0 [] (since toIdn (0x00 ∷ 0x0F ∷ []) 2)
-  pub request-refused : readOff i (request idn room ∷ []) ≡ readings [] 0 [] nothing
+      readOff i (begins ++ feed (0x82 ∷ 0x00 ∷ []) room ∷ calibrate (planned 1) room ∷ feed (0x00 ∷ []) room ∷ []) ≡
+      readings (exchange (first 0x00) (toIdle 0x43) (0x00 ∷ []) 1 ∷ trial (first 0x00) (0x82 ∷ 0x00 ∷ []) 2 ∷ []) 1 []
+  pub powered : readOff i (third ++ power-on i ∷ []) ≡ readings [] 0 []
+  pub powered-before :
+      readOff i (third ++ power-on i ∷ pulse ∷ request idn room ∷ feed (0x00 ∷ 0x0F ∷ []) room ∷ []) ≡
+      readings (exchange requested toIdn (0x00 ∷ 0x0F ∷ []) 2 ∷ []) 0 []
+  pub request-refused : readOff i (request idn room ∷ []) ≡ readings [] 0 []
 
 pub record ByReset : Type 0 where
   -- over SPI a reset ends it, over UART it is refused
-  pub spi : readOff Spi (third ++ reset room ∷ feed (0x00 ∷ []) room ∷ []) ≡ readings [] 0 [] nothing
-  pub uart :
-      readOff Uart (begins ++ reset room ∷ feed (0x00 ∷ []) room ∷ []) ≡
-      readings (exchange 0xC3 0x00 (0x00 ∷ []) ∷ []) 1 [] (since (toIdle 0xC3) (0x00 ∷ []) 1)
+  pub spi : readOff Spi (third ++ reset room ∷ feed (0x00 ∷ []) room ∷ []) ≡ readings [] 0 []
+  pub uart : readOff Uart (begins ++ reset room ∷ feed (0x00 ∷ []) room ∷ []) ≡ readings (trial (first 0x00) (0x00 ∷ []) 1 ∷ []) 1 []
 
 abbrev pub EveryReading : Type 0
 EveryReading = Read Uart × Read Spi × ByReset
 
--- ---- the newest answer that is neither More nor refusal 6
+-- ---- the newest answer that ended a calibration
 
--- after a Good
+-- after a reference
 abbrev pub lastOf : Answer → Answer
 lastOf a =
-    last (record { call = pulse; answer = a; used = 0; bytes = [] } ∷ record { call = pulse; answer = Good; used = 0; bytes = [] } ∷ [])
+    last (record { call = pulse; answer = a; used = 0; bytes = [] } ∷ record { call = pulse; answer = Reference 0x40 8; used = 0; bytes = [] } ∷ [])
 
 pub record Last : Type 0 where
-  pub answers : map lastOf (Done ∷ Sent 16 ∷ More ∷ Good ∷ Reference 0x5C 8 ∷ []) ≡ Done ∷ Sent 16 ∷ Good ∷ Good ∷ Reference 0x5C 8 ∷ []
-  pub refusals :
-      map (λ (k : Refusal). lastOf (Refused k)) (
-      Short ∷ Invalid ∷ Unready ∷ Busy ∷ Malformed ∷ Unawaited ∷ ChipError 0x87 ∷ LowestTimeout 1 ∷ HighestTag 2 ∷ NoLevel 8 ∷ NoBand ∷ CalibrationError 0x83 3 ∷ []) ≡
-      Refused Short ∷ Refused Invalid ∷ Refused Unready ∷ Refused Busy ∷ Refused Malformed ∷ Good ∷ Refused (ChipError 0x87) ∷ Refused (LowestTimeout 1) ∷
-      Refused (HighestTag 2) ∷ Refused (NoLevel 8) ∷ Refused NoBand ∷ Refused (CalibrationError 0x83 3) ∷ []
+  pub answers : map lastOf (Done ∷ Sent 16 ∷ More ∷ Good ∷ woke 0x02 ∷ Reference 0x5C 8 ∷ []) ≡ replicate 5 (Reference 0x40 8) ++ Reference 0x5C 8 ∷ []
+  -- 5, 8, 9, 10 and 12 are the refusals that end one
+  pub by-refusals :
+      map (λ (k : Refusal). ends (Refused k)) refusals ≡
+      false ∷ false ∷ false ∷ false ∷ true ∷ false ∷ false ∷ true ∷ true ∷ true ∷ true ∷ []
+  pub by-answers : map ends (Done ∷ Sent 16 ∷ More ∷ Good ∷ woke 0x02 ∷ Reference 0x5C 8 ∷ []) ≡ replicate 5 false ++ true ∷ []
   pub none : last [] ≡ Done
 
 -- ---- a run over SPI with p = 3, of a chip that gives tag up to 5C
@@ -119,13 +119,19 @@ pub record Last : Type 0 where
 abbrev pub driven : List Event
 driven = calibrated (λ (level : ℕ). leb level 0x5C) singly (λ (h : List Event). room) (λ (h : List Event). room) (planned 3) Spi unpowered .history
 
+-- the replies of a tag and of a timeout
+abbrev pub gaveTag : Owner → Exchange
+gaveTag owner = trial owner (0x00 ∷ 0x01 ∷ 0x02 ∷ []) 3
+
+abbrev pub gaveTimeout : Owner → Exchange
+gaveTimeout owner = trial owner (0x00 ∷ 0x01 ∷ 0x01 ∷ []) 3
+
 pub record Driven : Type 0 where
   pub exchanged :
       exchanges driven ≡
-      exchange 0xC3 0x60 (0x00 ∷ 0x01 ∷ 0x01 ∷ []) ∷ exchange 0xC3 0x64 (0x00 ∷ 0x01 ∷ 0x01 ∷ []) ∷ exchange 0xC3 0x6C (0x00 ∷ 0x01 ∷ 0x01 ∷ []) ∷
-      exchange 0xC3 0x5C (0x00 ∷ 0x01 ∷ 0x02 ∷ []) ∷ exchange 0xC3 0x3C (0x00 ∷ 0x01 ∷ 0x02 ∷ []) ∷ exchange 0xC3 0x7C (0x00 ∷ 0x01 ∷ 0x01 ∷ []) ∷
-      exchange 0xC3 0xFC (0x00 ∷ 0x01 ∷ 0x01 ∷ []) ∷ exchange 0xC3 0x00 (0x00 ∷ 0x01 ∷ 0x02 ∷ []) ∷ []
+      gaveTimeout (later 0x60) ∷ gaveTimeout (later 0x64) ∷ gaveTimeout (later 0x6C) ∷ gaveTag (later 0x5C) ∷ gaveTag (later 0x3C) ∷
+      gaveTimeout (later 0x7C) ∷ gaveTimeout (later 0xFC) ∷ gaveTag (first 0x00) ∷ []
   pub said :
       answers driven ≡
       told 0x60 timeout ∷ told 0x64 timeout ∷ told 0x6C timeout ∷ told 0x5C tag ∷ told 0x3C tag ∷ told 0x7C timeout ∷ told 0xFC timeout ∷ told 0x00 tag ∷ []
-  pub ends : last driven ≡ Reference 0x5C 8
+  pub ends-so : last driven ≡ Reference 0x5C 8

@@ -8,7 +8,7 @@ use Rattle.model.specs.declared.Interface.{Interface}
 use Rattle.model.specs.declared.Interface.the-variants.{Spi, Uart}
 use Rattle.model.specs.declared.Refusal.the-variants.{Short, LowestTimeout, HighestTag, NoLevel}
 use Rattle.model.specs.declared.Plan.{Plan}
-use Rattle.model.specs.declared.Seen.the-variants.{Tag, Timeout}
+use Rattle.model.specs.declared.Wake.the-variants.{Tag, Timeout, IrqIn, SpiSs}
 use Rattle.model.specs.declared.Turn.{Turn}
 use Rattle.model.specs.declared.Turn.the-variants.{Goes, Names, Fails}
 use Rattle.model.specs.declared.Answer.{Answer}
@@ -98,8 +98,9 @@ pub record Searching : Type 0 where
   pub last : heard (search 8 0x60) Tag ∷ heard (search 8 0x60) Timeout ∷ [] ≡ Names 0x60 8 ∷ Names 0x5C 8 ∷ []
   pub last-at-08 : heard (search 8 0x08) Tag ∷ heard (search 8 0x08) Timeout ∷ [] ≡ Names 0x08 8 ∷ Names 0x04 8 ∷ []
   pub last-at-00 : heard (search 8 0x00) Tag ∷ heard (search 8 0x00) Timeout ∷ [] ≡ Names 0x00 8 ∷ Fails (NoLevel 8) ∷ []
-  -- records that no call made: a level stays a byte, and one below 04 has none below it
+  -- records that no call made: a level stays a byte, one below 04 has none below it, and what is no tag counts as a timeout
   pub no-further : heard (search 3 0xBF) Tag ∷ heard (search 3 0xC0) Tag ∷ [] ≡ goes 3 0xFF ∷ goes 3 0xC0 ∷ []
   pub no-lower : heard (search 3 0x40) Timeout ∷ heard (search 3 0x3F) Timeout ∷ [] ≡ goes 3 0x00 ∷ goes 3 0x3F ∷ []
   pub none-lower : heard (search 8 0x04) Timeout ∷ heard (search 8 0x03) Timeout ∷ [] ≡ Names 0x00 8 ∷ Fails (NoLevel 8) ∷ []
+  pub other-wakes : heard (search 8 0x60) IrqIn ∷ heard (search 8 0x60) SpiSs ∷ [] ≡ Names 0x5C 8 ∷ Names 0x5C 8 ∷ []
   pub unbegun : heard (search 0 0x20) Tag ∷ heard (search 0 0x20) Timeout ∷ [] ≡ goes 0 0xFC ∷ Fails (LowestTimeout 0) ∷ []

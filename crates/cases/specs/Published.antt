@@ -7,18 +7,18 @@ use mathlib.Core.List.{List, [], _∷_, map}
 use lib.ListN.{replicate}
 use Rattle.model.specs.declared.Interface.the-variants.{Spi, Uart}
 use Rattle.model.specs.declared.Refusal.{Refusal}
-use Rattle.model.specs.declared.Refusal.the-variants.{Short, Invalid, Unready, Busy, Malformed, Unawaited, ChipError, LowestTimeout, HighestTag, NoLevel, NoBand, CalibrationError}
+use Rattle.model.specs.declared.Refusal.the-variants.{Short, Invalid, Unready, Busy, Malformed, Unawaited, ChipError, LowestTimeout, HighestTag, NoLevel, CalibrationError}
 use Rattle.model.specs.declared.Settings.{Settings}
 use Rattle.model.specs.declared.Reading.{Reading}
 use Rattle.model.specs.declared.Reading.the-variants.{Taken}
 use Rattle.model.specs.declared.Written.{Written}
 use Rattle.model.specs.declared.Written.the-variants.{Sent}
 use Rattle.model.specs.declared.Wait.the-variants.{Endless, After}
-use Rattle.model.specs.declared.Waiting.{Waiting}
+use Rattle.model.specs.declared.Waited.{Waited}
 use Rattle.model.specs.declared.Timing.{Timing}
-use Rattle.model.specs.Contract.{Ran}
-use Rattle.model.specs.Refusals.{numberOf, valuesOf}
-use Rattle.model.specs.Frames.{Command, idn, protocolSelect, sendRecv, idle, echo, frame, prescaler, Transfer, send, reset, poll, read, bytes, write, received, readCommand}
+use Rattle.words.specs.Contract.{Ran}
+use Rattle.model.specs.Refusals.{numberOf, valuesOf, silent, ended, reportOf}
+use Rattle.model.specs.Frames.{Command, idn, protocolSelect, sendRecv, idle, echo, frame, prescaler, send, reset, poll, read, bytes, write, received, readCommand}
 use Rattle.model.specs.Checks.{isMild}
 use Rattle.model.specs.Times.{timesOf, waitOf}
 use Rattle.cases.specs.Awaiting.{sleeping}
@@ -128,25 +128,29 @@ abbrev pub Prescalers : Type 0
 Prescalers = map prescaler (0x3F ∷ 0x40 ∷ 0x7F ∷ 0x80 ∷ 0xBF ∷ 0xC0 ∷ 0xFF ∷ 0x140 ∷ []) ≡ 0 ∷ 1 ∷ 1 ∷ 2 ∷ 2 ∷ 3 ∷ 3 ∷ 1 ∷ []
 
 pub record Waits : Type 0 where
-  pub at-a-level : waitOf (calibrating 0xFC) ≡ Waiting.Known (After (ms 528))
-  pub at-most : waitOf longest ≡ Waiting.Known (After (ms 4194304))
-  pub without-end : waitOf hibernate ≡ Waiting.Known Endless
-  pub no-source : waitOf sourceless ≡ Waiting.Refused Invalid
+  pub at-a-level : waitOf (calibrating 0xFC) ≡ Waited.Known (After (ms 528))
+  pub at-most : waitOf longest ≡ Waited.Known (After (ms 4194304))
+  pub without-end : waitOf hibernate ≡ Waited.Known Endless
+  pub no-source : waitOf sourceless ≡ Waited.Refused Invalid
   pub no-times : timesOf sourceless ≡ Timing.Refused Invalid
 
 -- ---- the numbers of the refusals
 
+-- all that a session gives
+abbrev pub refusals : List Refusal
+refusals =
+    Short ∷ Invalid ∷ Unready ∷ Busy ∷ Malformed ∷ Unawaited ∷ ChipError 0x87 ∷ LowestTimeout 1 ∷ HighestTag 2 ∷ NoLevel 8 ∷ CalibrationError 0x82 3 ∷ []
+
 abbrev pub Numbers : Type 0
-Numbers =
-    map numberOf (
-    Short ∷ Invalid ∷ Unready ∷ Busy ∷ Malformed ∷ Unawaited ∷ ChipError 0x87 ∷ LowestTimeout 1 ∷ HighestTag 2 ∷ NoLevel 8 ∷ NoBand ∷ CalibrationError 0x82 3 ∷ [])
-    ≡ 1 ∷ 2 ∷ 3 ∷ 4 ∷ 5 ∷ 6 ∷ 7 ∷ 8 ∷ 9 ∷ 10 ∷ 11 ∷ 12 ∷ []
+Numbers = map numberOf refusals ≡ 1 ∷ 2 ∷ 3 ∷ 4 ∷ 5 ∷ 6 ∷ 7 ∷ 8 ∷ 9 ∷ 10 ∷ 12 ∷ []
 
 abbrev pub Values : Type 0
-Values =
-    map valuesOf (
-    Short ∷ Invalid ∷ Unready ∷ Busy ∷ Malformed ∷ Unawaited ∷ ChipError 0x87 ∷ LowestTimeout 1 ∷ HighestTag 2 ∷ NoLevel 8 ∷ NoBand ∷ CalibrationError 0x82 3 ∷ [])
-    ≡ [] ∷ [] ∷ [] ∷ [] ∷ [] ∷ [] ∷ (0x87 ∷ []) ∷ (1 ∷ []) ∷ (2 ∷ []) ∷ (8 ∷ []) ∷ [] ∷ (0x82 ∷ 3 ∷ []) ∷ []
+Values = map valuesOf refusals ≡ [] ∷ [] ∷ [] ∷ [] ∷ [] ∷ [] ∷ (0x87 ∷ []) ∷ (1 ∷ []) ∷ (2 ∷ []) ∷ (8 ∷ []) ∷ (0x82 ∷ 3 ∷ []) ∷ []
+
+-- those that report the commands of a calibration
+abbrev pub Reported : Type 0
+Reported =
+    map reportOf refusals ≡ silent ∷ silent ∷ silent ∷ silent ∷ silent ∷ silent ∷ silent ∷ ended 1 ∷ ended 2 ∷ ended 8 ∷ ended 3 ∷ []
 
 -- those that change nothing, write nothing and consume nothing
 abbrev pub Mild : Type 0

@@ -14,12 +14,12 @@ use Rattle.model.specs.declared.State.{State}
 use Rattle.model.specs.declared.State.the-variants.{PowerUp, Ready, Selected, Waiting, Lost}
 use Rattle.model.specs.declared.Session.{Session}
 use Rattle.model.specs.declared.Answer.{Answer}
-use Rattle.model.specs.Words.{pick}
+use Rattle.words.specs.Words.{pick}
 use Rattle.model.specs.Frames.{idn, protocolSelect, sendRecv, idle, echo}
 use Rattle.model.specs.Replies.{begun}
 use Rattle.model.specs.Calibration.{search}
-use Rattle.model.specs.Session.{made, Call, pulse, request, reset, poll, read, calibrate, next, feed, step}
-use Rattle.cases.specs.Awaiting.{toIdn, toSelect, toSend, toIdle, toEcho, toldBy}
+use Rattle.model.specs.Session.{made, awaitedOf, Call, pulse, request, reset, poll, read, calibrate, next, feed, step}
+use Rattle.cases.specs.Awaiting.{toIdn, toSelect, toIdle, toEcho, toldBy}
 use Rattle.cases.specs.Starred.{room}
 use Rattle.cases.specs.Sessions.{after, selects, selected, lost, tag}
 use Rattle.cases.specs.Framing.{levelled}
@@ -92,7 +92,7 @@ abbrev pub States : Type 0
 States =
     map (λ (s : Session). s .state) (sessions Uart) ≡
     PowerUp ∷ Ready ∷ Selected 1 ∷ Selected 2 ∷ Selected 4 ∷
-    Waiting (begun toIdn) 0 ∷ Waiting (begun (toSelect 1)) 0 ∷ Waiting (begun toSend) 1 ∷ Waiting (begun (toIdle 0xDB)) 0 ∷ Waiting (begun toEcho) 2 ∷
+    Waiting (begun toIdn) 0 ∷ Waiting (begun (toSelect 1)) 0 ∷ Waiting (begun (awaitedOf (sendRecv []))) 1 ∷ Waiting (begun (toIdle 0xDB)) 0 ∷ Waiting (begun toEcho) 2 ∷
     Waiting (begun (toIdle 0xC3)) 0 ∷ Ready ∷ Waiting (begun (toIdle 0xC3)) 0 ∷ Lost ∷ []
 
 -- ---- the table

@@ -2,18 +2,18 @@
 -- Assumes nothing.
 use Prim.Native.Nat.{ℕ, zero, suc}
 use mathlib.Core.Path.{_≡_}
-use mathlib.Core.Bool.{Bool, true, false}
+use mathlib.Core.Bool.{Bool}
 use mathlib.Core.List.{List, [], _∷_, _++_, map}
-use lib.ListN.{replicate}
+use lib.ListN.{replicate, getD}
 use Rattle.model.specs.declared.Awaited.{Awaited}
-use Rattle.model.specs.declared.Phase.the-variants.{Begun, Failed, Counting, Waking, Data}
-use Rattle.model.specs.declared.Verdict.the-variants.{More, Good, Error, Malformed, NoRoom}
+use Rattle.model.specs.declared.Phase.the-variants.{Failed, Counting, Waking, Data}
+use Rattle.model.specs.declared.Verdict.the-variants.{More, NoRoom}
 use Rattle.model.specs.declared.Place.the-variants.{Nowhere, Piece, Room}
 use Rattle.model.specs.declared.Fed.{Fed}
-use Rattle.model.specs.Words.{pick}
-use Rattle.model.specs.Contract.{Ran}
-use Rattle.model.specs.Replies.{leastRoom, isError, Meaning, meaning, reply, at, begun, feed, dataOf}
-use Rattle.cases.specs.Awaiting.{toIdn, toSelect, toSend, toIdle, toEcho, waking}
+use Rattle.words.specs.Words.{pick}
+use Rattle.words.specs.Contract.{Ran}
+use Rattle.model.specs.Replies.{isError, Meaning, meaning, reply, at, begun, feed, dataOf}
+use Rattle.cases.specs.Awaiting.{toIdn, toSelect, toSend, toIdle, toEcho, good, failed, wrong, waking}
 
 -- ---- the error codes
 
@@ -41,27 +41,38 @@ Good-replies =
     reply (toIdle 0x03) (0x00 ∷ 0x01 ∷ 0x02 ∷ []) ∷ reply (toIdle 0x08) (0x00 ∷ 0x01 ∷ 0x08 ∷ []) ∷ reply (toIdle 0xD0) (0x00 ∷ 0x01 ∷ 0x10 ∷ []) ∷
     -- bytes after the last are not looked at
     reply toEcho (0x55 ∷ 0x55 ∷ []) ∷ reply (toIdle 0x03) (0x82 ∷ 0x00 ∷ 0x99 ∷ []) ∷ reply toIdn (0x8F ∷ 0x00 ∷ []) ∷ []
-    ≡ meaning Good name 17 ∷ meaning Good [] 2 ∷ meaning Good [] 2 ∷
-    meaning Good (0x44 ∷ 0x00 ∷ 0x28 ∷ 0x00 ∷ 0x55 ∷ []) 7 ∷ meaning (waking 0x01) (0x01 ∷ []) 3 ∷
+    ≡ meaning good name 17 ∷ meaning good [] 2 ∷ meaning good [] 2 ∷
+    meaning good (0x44 ∷ 0x00 ∷ 0x28 ∷ 0x00 ∷ 0x55 ∷ []) 7 ∷ meaning (waking 0x01) (0x01 ∷ []) 3 ∷
     meaning (waking 0x02) (0x02 ∷ []) 3 ∷ meaning (waking 0x08) (0x08 ∷ []) 3 ∷ meaning (waking 0x10) (0x10 ∷ []) 3 ∷
-    meaning Good [] 1 ∷ meaning (Error 0x82) [] 2 ∷ meaning (Error 0x8F) [] 2 ∷ []
+    meaning good [] 1 ∷ meaning (failed 0x82) [] 2 ∷ meaning (failed 0x8F) [] 2 ∷ []
 
--- malformed at the byte of an index
-abbrev pub malformed : ℕ → Meaning
-malformed i = meaning Malformed [] (suc i)
+-- bytes that are malformed at a place
+pub record Bad : Type 0 where
+  pub to : Awaited
+  pub bytes : List ℕ
+  pub place : ℕ
+
+abbrev pub bad : Awaited → List ℕ → ℕ → Bad
+bad a xs i = record { to = a; bytes = xs; place = i }
+
+-- malformed there, by the byte that stands there, and taken through it
+abbrev pub malformed : List ℕ → ℕ → Meaning
+malformed xs i = meaning (wrong i (getD xs i 0)) [] (suc i)
+
+abbrev pub AllBad : List Bad → Type 0
+AllBad bads = map (λ (b : Bad). reply (b .to) (b .bytes)) bads ≡ map (λ (b : Bad). malformed (b .bytes) (b .place)) bads
 
 abbrev pub Bad-replies : Type 0
 Bad-replies =
-    reply toIdn (0x55 ∷ []) ∷ reply (toSelect 1) (0x80 ∷ 0x00 ∷ []) ∷ reply toSend (0x00 ∷ 0x00 ∷ []) ∷ reply toSend (0x90 ∷ 0x00 ∷ []) ∷
-    reply toSend (0x84 ∷ 0x00 ∷ []) ∷ reply toEcho (0x82 ∷ 0x00 ∷ []) ∷ reply toEcho (0x00 ∷ []) ∷
+    AllBad (
+    bad toIdn (0x55 ∷ []) 0 ∷ bad (toSelect 1) (0x80 ∷ 0x00 ∷ []) 0 ∷ bad toSend (0x00 ∷ 0x00 ∷ []) 0 ∷ bad toSend (0x90 ∷ 0x00 ∷ []) 0 ∷
+    bad toSend (0x84 ∷ 0x00 ∷ []) 0 ∷ bad toEcho (0x82 ∷ 0x00 ∷ []) 0 ∷ bad toEcho (0x00 ∷ []) 0 ∷
     -- without a source no event can come
-    reply (toIdle 0xC0) (0x00 ∷ 0x01 ∷ 0x01 ∷ []) ∷
-    reply toIdn (0x00 ∷ 0x0E ∷ []) ∷ reply (toSelect 1) (0x00 ∷ 0x01 ∷ []) ∷ reply (toIdle 0x03) (0x00 ∷ 0x02 ∷ []) ∷
-    reply toSend (0x8D ∷ 0x01 ∷ []) ∷ reply toIdn (0x82 ∷ 0x82 ∷ []) ∷
-    reply (toIdle 0x03) (0x00 ∷ 0x01 ∷ 0x08 ∷ []) ∷ reply (toIdle 0x01) (0x00 ∷ 0x01 ∷ 0x02 ∷ []) ∷ reply (toIdle 0x1B) (0x00 ∷ 0x01 ∷ 0x03 ∷ []) ∷
-    reply (toIdle 0x1B) (0x00 ∷ 0x01 ∷ 0x04 ∷ []) ∷ []
-    ≡ malformed 0 ∷ malformed 0 ∷ malformed 0 ∷ malformed 0 ∷ malformed 0 ∷ malformed 0 ∷ malformed 0 ∷ malformed 0 ∷
-    malformed 1 ∷ malformed 1 ∷ malformed 1 ∷ malformed 1 ∷ malformed 1 ∷ malformed 2 ∷ malformed 2 ∷ malformed 2 ∷ malformed 2 ∷ []
+    bad (toIdle 0xC0) (0x00 ∷ 0x01 ∷ 0x01 ∷ []) 0 ∷
+    bad toIdn (0x00 ∷ 0x0E ∷ []) 1 ∷ bad (toSelect 1) (0x00 ∷ 0x01 ∷ []) 1 ∷ bad (toIdle 0x03) (0x00 ∷ 0x02 ∷ []) 1 ∷
+    bad toSend (0x8D ∷ 0x01 ∷ []) 1 ∷ bad toIdn (0x82 ∷ 0x82 ∷ []) 1 ∷
+    bad (toIdle 0x03) (0x00 ∷ 0x01 ∷ 0x08 ∷ []) 2 ∷ bad (toIdle 0x01) (0x00 ∷ 0x01 ∷ 0x02 ∷ []) 2 ∷ bad (toIdle 0x1B) (0x00 ∷ 0x01 ∷ 0x03 ∷ []) 2 ∷
+    bad (toIdle 0x1B) (0x00 ∷ 0x01 ∷ 0x04 ∷ []) 2 ∷ [])
 
 -- ---- pieces
 
@@ -81,9 +92,9 @@ pub record Pieces : Type 0 where
       feed (begun toEcho) (0x55 ∷ []) (replicate 254 0) ≡ fed (replicate 254 0) (record { verdict = NoRoom; used = 0; place = Nowhere; progress = begun toEcho })
   pub whole :
       feed (begun toSend) (0x80 ∷ 0x02 ∷ 0x55 ∷ 0x66 ∷ 0x99 ∷ []) room ≡
-      fed room (record { verdict = Good; used = 4; place = Piece 2 2; progress = begun toSend })
+      fed room (record { verdict = good; used = 4; place = Piece 2 2; progress = begun toSend })
   pub without-data :
-      feed (begun toSend) (0x80 ∷ 0x00 ∷ []) room ≡ fed room (record { verdict = Good; used = 2; place = Nowhere; progress = begun toSend })
+      feed (begun toSend) (0x80 ∷ 0x00 ∷ []) room ≡ fed room (record { verdict = good; used = 2; place = Nowhere; progress = begun toSend })
   pub one :
       feed (begun toSend) (0x80 ∷ []) room ≡ fed room (record { verdict = More; used = 1; place = Nowhere; progress = at toSend Counting })
   pub two :
@@ -94,21 +105,21 @@ pub record Pieces : Type 0 where
       fed (holding 253 (0x55 ∷ 0x66 ∷ [])) (record { verdict = More; used = 1; place = Nowhere; progress = at toSend (Data 2 3) })
   pub four :
       feed (at toSend (Data 2 3)) (0x77 ∷ 0x99 ∷ []) (holding 253 (0x55 ∷ 0x66 ∷ [])) ≡
-      fed (holding 252 (0x55 ∷ 0x66 ∷ 0x77 ∷ [])) (record { verdict = Good; used = 1; place = Room 3; progress = begun toSend })
+      fed (holding 252 (0x55 ∷ 0x66 ∷ 0x77 ∷ [])) (record { verdict = good; used = 1; place = Room 3; progress = begun toSend })
   -- all data in the piece just given
-  pub late : feed (at toSend (Data 0 1)) (0x55 ∷ []) room ≡ fed room (record { verdict = Good; used = 1; place = Piece 0 1; progress = begun toSend })
+  pub late : feed (at toSend (Data 0 1)) (0x55 ∷ []) room ≡ fed room (record { verdict = good; used = 1; place = Piece 0 1; progress = begun toSend })
   pub event :
       feed (at (toIdle 0x02) Waking) (0x02 ∷ []) room ≡ fed room (record { verdict = waking 0x02; used = 1; place = Piece 0 1; progress = begun (toIdle 0x02) })
   pub error :
-      feed (at toIdn (Failed 0x83)) (0x00 ∷ []) room ≡ fed room (record { verdict = Error 0x83; used = 1; place = Nowhere; progress = begun toIdn })
+      feed (at toIdn (Failed 0x83)) (0x00 ∷ []) room ≡ fed room (record { verdict = failed 0x83; used = 1; place = Nowhere; progress = begun toIdn })
   -- records that no call made
-  pub full : feed (at toSend (Data 3 3)) (0x00 ∷ []) room ≡ fed room (record { verdict = Malformed; used = 1; place = Nowhere; progress = begun toSend })
+  pub full : feed (at toSend (Data 3 3)) (0x07 ∷ []) room ≡ fed room (record { verdict = wrong 5 0x07; used = 1; place = Nowhere; progress = begun toSend })
   pub overfull :
-      feed (at toSend (Data 4 3)) (0x00 ∷ 0x01 ∷ []) room ≡ fed room (record { verdict = Malformed; used = 1; place = Nowhere; progress = begun toSend })
+      feed (at toSend (Data 4 3)) (0x07 ∷ 0x01 ∷ []) room ≡ fed room (record { verdict = wrong 6 0x07; used = 1; place = Nowhere; progress = begun toSend })
   pub counted-echo :
-      feed (at toEcho Counting) (0x00 ∷ 0x01 ∷ []) room ≡ fed room (record { verdict = Malformed; used = 1; place = Nowhere; progress = begun toEcho })
+      feed (at toEcho Counting) (0x00 ∷ 0x01 ∷ []) room ≡ fed room (record { verdict = wrong 1 0x00; used = 1; place = Nowhere; progress = begun toEcho })
   pub strange :
-      map (λ (a : Awaited). feed (at a Waking) (0x01 ∷ []) room .answer .verdict) (toIdn ∷ toSelect 1 ∷ toSend ∷ toEcho ∷ []) ≡ replicate 4 Malformed
+      map (λ (a : Awaited). feed (at a Waking) (0x01 ∷ []) room .answer .verdict) (toIdn ∷ toSelect 1 ∷ toSend ∷ toEcho ∷ []) ≡ replicate 4 (wrong 2 0x01)
 
 -- ---- places
 

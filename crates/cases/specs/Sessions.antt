@@ -180,4 +180,4 @@ pub record Pulses : Type 0 where
 
 -- the one answer that says that bytes were given out
 abbrev pub Given : Type 0
-Given = map isSent (Done ∷ Sent 2 ∷ More ∷ Good ∷ Reference 0x5C 8 ∷ Refused Busy ∷ []) ≡ false ∷ true ∷ false ∷ false ∷ false ∷ false ∷ []
+Given = map isSent (Done ∷ Sent 2 ∷ More ∷ Good ∷ woke 0x02 ∷ Reference 0x5C 8 ∷ Refused Busy ∷ []) ≡ false ∷ true ∷ false ∷ false ∷ false ∷ false ∷ false ∷ []

@@ -9,25 +9,21 @@ use lib.ListN.{replicate}
 use lib.IntN.{pos}
 use lib.Ieee.{Float, binary32, ofBits, ofInt}
 use Rattle.model.specs.declared.Interface.the-variants.{Uart}
-use Rattle.model.specs.declared.Refusal.the-variants.{NoBand}
 use Rattle.model.specs.declared.Settings.{Settings}
 use Rattle.model.specs.declared.Plan.{Plan}
 use Rattle.model.specs.declared.Timing.{Timing}
 use Rattle.model.specs.declared.Wait.the-variants.{After}
-use Rattle.model.specs.declared.Waiting.{Waiting}
-use Rattle.model.specs.declared.Guard.{Guard}
-use Rattle.model.specs.declared.Guard.the-variants.{Band}
+use Rattle.model.specs.declared.Waited.{Waited}
+use Rattle.model.specs.declared.Guard.the-variants.{Band, NoBand}
 use Rattle.model.specs.declared.Answer.the-variants.{Reference}
-use Rattle.model.specs.declared.Flags.{Flags}
-use Rattle.model.specs.declared.Verdict.the-variants.{Good, Error, Malformed}
 use Rattle.model.specs.Frames.{idle, frame, flags}
 use Rattle.model.specs.Replies.{meaning, reply}
 use Rattle.model.specs.Times.{ticks, times, timesOf, waitOf}
 use Rattle.model.specs.Calibration.{settingsAt, band}
 use Rattle.model.specs.Session.{unpowered}
-use Rattle.model.specs.History.{Event, Exchange, exchanges}
+use Rattle.model.specs.History.{Event, Exchange, exchanges, trials, levelOf}
 use Rattle.model.specs.Talk.{eventOf, calibrated, last}
-use Rattle.cases.specs.Awaiting.{toSend, toIdle, waking}
+use Rattle.cases.specs.Awaiting.{toSend, toIdle, waking, good, failed, wrong}
 
 -- the plan of the calibrations, and the settings of its Idle command at a level
 abbrev pub plan : Plan
@@ -85,7 +81,7 @@ switchingAt top = calibrated (λ (level : ℕ). leb level top) singly (λ (h : L
 
 -- the levels tried, in order
 abbrev pub levels : List Event → List ℕ
-levels h = reverse (map (λ (x : Exchange). x .level) (exchanges h))
+levels h = reverse (map (λ (x : Exchange). levelOf (x .owner)) (trials (exchanges h)))
 
 pub record Starred : Type 0 where
   pub calibration-frame : (level : ℕ) →
@@ -98,10 +94,10 @@ pub record Starred : Type 0 where
   pub calibration-told :
       map (λ (level : ℕ). timesOf (calibrating level)) (0x00 ∷ 0x5C ∷ 0xFC ∷ []) ≡
       replicate 3 (Timing.Known (ticks (calibrating 0x00)) (times (calibrating 0x00)))
-  pub calibration-waits : map (λ (level : ℕ). waitOf (calibrating level)) (0x00 ∷ 0x5C ∷ 0xFC ∷ []) ≡ replicate 3 (Waiting.Known (After (ms 528)))
+  pub calibration-waits : map (λ (level : ℕ). waitOf (calibrating level)) (0x00 ∷ 0x5C ∷ 0xFC ∷ []) ≡ replicate 3 (Waited.Known (After (ms 528)))
   pub longest-ticks : ticks longest .timeout ≡ 134217728
   pub longest-time : times longest .timeout ≡ ms 4194304
-  pub longest-wait : waitOf longest ≡ Waiting.Known (After (ms 4194304))
+  pub longest-wait : waitOf longest ≡ Waited.Known (After (ms 4194304))
   pub switch-at-5C : levels (switchingAt 0x5C) ≡ 0x00 ∷ 0xFC ∷ 0x7C ∷ 0x3C ∷ 0x5C ∷ 0x6C ∷ 0x64 ∷ 0x60 ∷ []
   pub tag-only-at-00 : levels (switchingAt 0x00) ≡ 0x00 ∷ 0xFC ∷ 0x7C ∷ 0x3C ∷ 0x1C ∷ 0x0C ∷ 0x04 ∷ 0x00 ∷ []
   pub timeout-only-at-FC : levels (switchingAt 0xF8) ≡ 0x00 ∷ 0xFC ∷ 0x7C ∷ 0xBC ∷ 0xDC ∷ 0xEC ∷ 0xF4 ∷ 0xF8 ∷ []
@@ -109,11 +105,11 @@ pub record Starred : Type 0 where
       map (λ (top : ℕ). last (switchingAt top)) (0x5C ∷ 0x00 ∷ 0xF8 ∷ []) ≡ Reference 0x5C 8 ∷ Reference 0x00 8 ∷ Reference 0xF8 8 ∷ []
   pub bands :
       map band (0x5C ∷ 0x00 ∷ 0xF8 ∷ 0xF4 ∷ 0x08 ∷ []) ≡
-      Band 0x54 0x64 ∷ Guard.Refused NoBand ∷ Guard.Refused NoBand ∷ Band 0xEC 0xFC ∷ Band 0x00 0x10 ∷ []
+      Band 0x54 0x64 ∷ NoBand ∷ NoBand ∷ Band 0xEC 0xFC ∷ Band 0x00 0x10 ∷ []
   pub poll-flags : map flags (0x08 ∷ 0xF3 ∷ []) ≡ record { read = true; send = false } ∷ record { read = false; send = false } ∷ []
   pub awaited-idle :
       map (reply (toIdle 0x03)) ((0x00 ∷ 0x01 ∷ 0x02 ∷ []) ∷ (0x00 ∷ 0x01 ∷ 0x08 ∷ []) ∷ []) ≡
-      meaning (waking 0x02) (0x02 ∷ []) 3 ∷ meaning Malformed [] 3 ∷ []
+      meaning (waking 0x02) (0x02 ∷ []) 3 ∷ meaning (wrong 2 0x08) [] 3 ∷ []
   pub awaited-send-recv :
       map (reply toSend) ((0x8D ∷ 0x00 ∷ []) ∷ (0x8D ∷ 0x01 ∷ []) ∷ (0x80 ∷ 0x00 ∷ []) ∷ []) ≡
-      meaning (Error 0x8D) [] 2 ∷ meaning Malformed [] 2 ∷ meaning Good [] 2 ∷ []
+      meaning (failed 0x8D) [] 2 ∷ meaning (wrong 1 0x01) [] 2 ∷ meaning good [] 2 ∷ []

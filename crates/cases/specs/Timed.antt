@@ -10,7 +10,7 @@ use Rattle.model.specs.declared.Settings.{Settings}
 use Rattle.model.specs.declared.Ticks.{Ticks}
 use Rattle.model.specs.declared.Timing.{Timing}
 use Rattle.model.specs.declared.Wait.the-variants.{Endless, After}
-use Rattle.model.specs.declared.Waiting.{Waiting}
+use Rattle.model.specs.declared.Waited.{Waited}
 use Rattle.model.specs.Times.{ticks, times, timesOf, waitOf}
 use Rattle.model.specs.Calibration.{settingsAt}
 use Rattle.cases.specs.Starred.{ms, tick}
@@ -60,8 +60,8 @@ pub record Timed : Type 0 where
   -- with bit 0 among the sources, and without it
   pub waits :
       map (λ (source : ℕ). waitOf (timed source)) (0x01 ∷ 0x43 ∷ 0x99 ∷ 0xDB ∷ []) ≡
-      Waiting.Known (After (ms 960)) ∷ Waiting.Known (After (ms 1920)) ∷ Waiting.Known (After (ms 3840)) ∷ Waiting.Known (After (ms 7680)) ∷ []
-  pub endless : map (λ (source : ℕ). waitOf (timed source)) (0x02 ∷ 0x48 ∷ 0x90 ∷ 0xDA ∷ []) ≡ replicate 4 (Waiting.Known Endless)
-  pub no-wait : map (λ (source : ℕ). waitOf (timed source)) (0xC0 ∷ 0x05 ∷ 0x21 ∷ []) ≡ replicate 3 (Waiting.Refused Invalid)
+      Waited.Known (After (ms 960)) ∷ Waited.Known (After (ms 1920)) ∷ Waited.Known (After (ms 3840)) ∷ Waited.Known (After (ms 7680)) ∷ []
+  pub endless : map (λ (source : ℕ). waitOf (timed source)) (0x02 ∷ 0x48 ∷ 0x90 ∷ 0xDA ∷ []) ≡ replicate 4 (Waited.Known Endless)
+  pub no-wait : map (λ (source : ℕ). waitOf (timed source)) (0xC0 ∷ 0x05 ∷ 0x21 ∷ []) ≡ replicate 3 (Waited.Refused Invalid)
   -- of a calibration's command MaxSleep is 01
   pub calibration : times (settingsAt (planned 3) 0x5C) ≡ record { low = quarter; reference = ms 64; inactive = ms 1536; timeout = ms 3072; osc = ms 8; dac = ms 24 }

@@ -1,103 +1,73 @@
-// The command reader: one frame that fills its part exactly.
+// The command reader: the first frame of a part, or one that fills its part exactly.
 ghost use mathlib.Core.Path.{_≡_};
-ghost use Prim.Native.Nat.{_≤_};
 ghost use lib.ListN.{length};
-ghost use Rattle.model.specs.Frames.{readIdn, readProtocolSelect, readSendRecv, readIdle, readData, Reads};
+ghost use Rattle.model.specs.Frames.{kindOf, part as partOf, taken as takenBy, readCounted, Reads, ReadsFirst};
+use model::Coded;
 use model::Frame;
-use model::Part;
 use model::Reading;
 use model::Refusal;
+use words::Part;
 
-fn idn(body: &[u8]) -> Reading
-    ensures { λ r. ⌜ r ≡ readIdn (now (body .entry)) ⌝ }
+// A frame by its code and its data, which stand in the part from an index on.
+fn taken(code: u8, start: usize, payload: &[u8]) -> Reading
+    ensures { λ r. ⌜ r ≡ takenBy (kindOf code) (partOf start (length (now (payload .entry)))) (now (payload .entry)) ⌝ }
 {
-    if body.len() == 0 {
-        return Reading::Taken(Frame::Idn);
+    match kinds::kind_of(code) {
+        Coded::Known(kind) => {
+            if kinds::is_permitted(kind, payload) {
+                return Reading::Taken(Frame {
+                    kind,
+                    payload: Part {
+                        start,
+                        count: payload.len(),
+                    },
+                });
+            }
+            Reading::Refused(Refusal::Invalid)
+        }
+        Coded::Unknown => Reading::Refused(Refusal::Invalid),
     }
-    Reading::Refused(Refusal::Invalid)
 }
 
-// The parameters stand behind code, length and protocol.
-fn protocol_select(body: &[u8]) -> Reading
-    ensures { λ r. ⌜ r ≡ readProtocolSelect (now (body .entry)) ⌝ }
+// A frame by its code and what follows it: the length, and so many data.
+fn read_counted(code: u8, rest: &[u8]) -> Reading
+    ensures { λ r. ⌜ r ≡ readCounted code (now (rest .entry)) ⌝ }
 {
-    let length = body.len();
-    if length < 2 {
+    if rest.len() < 1 {
         return Reading::Refused(Refusal::Invalid);
     }
-    if 9 < length {
+    let count = rest[0] as usize;
+    if rest.len() - 1 < count {
         return Reading::Refused(Refusal::Invalid);
     }
-    let protocol = body[0];
-    if 4 < protocol {
-        return Reading::Refused(Refusal::Invalid);
-    }
-    Reading::Taken(Frame::ProtocolSelect {
-        protocol,
-        parameters: Part {
-            start: 3,
-            count: length - 1,
-        },
-    })
+    taken(code, 2, &rest[1..count + 1])
 }
 
-// The data stand behind code and length.
-fn send_recv(body: &[u8]) -> Reading
-    requires { ⌜ length (now body) ≤ 255 ⌝ }
-    ensures { λ r. ⌜ r ≡ readSendRecv (now (body .entry)) ⌝ }
+// The frame that a part begins with: behind 55 stands no length.
+pub fn read_first(part: &[u8]) -> Reading
+    ensures { λ r. ⌜ ReadsFirst (now (part .entry)) r ⌝ }
 {
-    Reading::Taken(Frame::SendRecv {
-        data: Part {
-            start: 2,
-            count: body.len(),
-        },
-    })
-}
-
-fn idle(body: &[u8]) -> Reading
-    ensures { λ r. ⌜ r ≡ readIdle (now (body .entry)) ⌝ }
-{
-    if body.len() != 14 {
-        return Reading::Refused(Refusal::Invalid);
-    }
-    let s = settings::of_data(body);
-    if settings::is_allowed(s) {
-        return Reading::Taken(Frame::Idle { settings: s });
-    }
-    Reading::Refused(Refusal::Invalid)
-}
-
-// What follows code and length, by its code.
-fn coded(code: u8, body: &[u8]) -> Reading
-    requires { ⌜ length (now body) ≤ 255 ⌝ }
-    ensures { λ r. ⌜ r ≡ readData code (now (body .entry)) ⌝ }
-{
-    match code {
-        0x01 => idn(body),
-        0x02 => protocol_select(body),
-        0x04 => send_recv(body),
-        0x07 => idle(body),
-        _ => Reading::Refused(Refusal::Invalid),
-    }
-}
-
-pub fn read_command(part: &[u8]) -> Reading
-    ensures { λ r. ⌜ Reads (now (part .entry)) r ⌝ }
-{
-    let length = part.len();
-    if length < 1 {
+    if part.len() < 1 {
         return Reading::Refused(Refusal::Invalid);
     }
     let code = part[0];
-    if length < 2 {
-        if code == 0x55 {
-            return Reading::Taken(Frame::Echo);
+    if code == 0x55 {
+        return taken(code, 1, b"");
+    }
+    read_counted(code, &part[1..])
+}
+
+// One frame that fills its part exactly.
+pub fn read_command(part: &[u8]) -> Reading
+    ensures { λ r. ⌜ Reads (now (part .entry)) r ⌝ }
+{
+    match read_first(part) {
+        Reading::Taken(frame) => {
+            if frame.payload.start + frame.payload.count == part.len() {
+                return Reading::Taken(frame);
+            }
+            Reading::Refused(Refusal::Invalid)
         }
-        return Reading::Refused(Refusal::Invalid);
+        Reading::Refused(refusal) => Reading::Refused(refusal),
     }
-    let count = part[1] as usize;
-    if count != length - 2 {
-        return Reading::Refused(Refusal::Invalid);
-    }
-    coded(code, &part[2..])
 }

@@ -11,37 +11,38 @@ use lib.ListN.{length}
 use lib.Seq.{paste}
 use borrow.Author.Tests.{le-leb, lt-leb, ne-eqb}
 use Rattle.model.specs.declared.Answer.{Answer}
-use Rattle.model.specs.declared.Answer.the-variants.{Done, Sent, More, Good, Reference, Refused}
+use Rattle.model.specs.declared.Answer.the-variants.{Done, Sent, More, Good, Woken, Reference, Refused}
 use Rattle.model.specs.declared.Guard.{Guard}
-use Rattle.model.specs.declared.Guard.the-variants.{Band}
-use Rattle.model.specs.declared.Guard.the-variants.{Refused as NoGuard}
-use Rattle.model.specs.declared.Frame.the-variants.{Idn, ProtocolSelect, SendRecv, Idle, Echo}
+use Rattle.model.specs.declared.Guard.the-variants.{Band, NoBand}
+use Rattle.model.specs.declared.Kind.{Kind}
+use Rattle.model.specs.declared.Kind.the-variants.{Idn, ProtocolSelect, SendRecv, Idle, Echo}
 use Rattle.model.specs.declared.Reading.{Reading}
 use Rattle.model.specs.declared.Reading.the-variants.{Taken}
 use Rattle.model.specs.declared.Reading.the-variants.{Refused as NoFrame}
-use Rattle.model.specs.Words.{bit}
-use Rattle.model.specs.Contract.{Ran}
+use Rattle.words.specs.Words.{bit}
+use Rattle.words.specs.Contract.{Ran}
 use Rattle.model.specs.Frames.{settings, settingsAllowed, readCommand}
 use Rattle.model.specs.Calibration.{band}
-use Rattle.model.proofs.Words.{ways}
-use Rattle.text.specs.Lines.{fore, byteAt, skipped}
-use Rattle.text.specs.Writing.{written, word}
+use Rattle.words.proofs.Words.{ways}
+use Rattle.text.specs.Lines.{fore, rest, byteAt, skipped}
+use Rattle.text.specs.Writing.{written, word, hexes}
 use Rattle.calls.specs.declared.Question.{Question}
 use Rattle.calls.specs.declared.Question.the-variants.{Times, Wait, Command, Received}
 use Rattle.calls.specs.declared.Question.the-variants.{Band as BandOf}
 use Rattle.calls.specs.declared.Question.the-variants.{Flags as FlagsOf}
-use Rattle.calls.specs.declared.Call.{Call}
-use Rattle.calls.specs.declared.Call.the-variants.{Acts, Feeds, Tells, Sets, Helps}
+use Rattle.calls.specs.declared.Verb.{Verb}
+use Rattle.calls.specs.declared.Verb.the-variants.{Acts, Feeds, Tells, Sets, Helps}
 use Rattle.calls.specs.declared.Fault.{Fault}
 use Rattle.calls.specs.declared.Fault.the-variants.{Unknown, Longer, NoPair, NoNumber, NoInterface, Count, NoProtocol, Above}
 use Rattle.calls.specs.declared.Asked.{Asked}
 use Rattle.calls.specs.declared.Asked.the-variants.{Understood, Wrong}
+use Rattle.calls.specs.Calls.{kindName}
 use Rattle.calls.specs.Asking.{asked}
 use Rattle.faults.specs.Faults.{faultText}
 use Rattle.answers.specs.Answers.{answerText, usedText, stateText}
 use Rattle.questions.specs.Questions.{guardText, readingText, questionText}
 use Rattle.desk.specs.declared.Post.{Post}
-use Rattle.desk.specs.Desk.{Left, acting, feeding, obeyed, heard, blankBytes}
+use Rattle.desk.specs.Desk.{Left, acting, feeding, obeyed, carriedOut, blankBytes}
 use Rattle.desk.specs.Claims.{Unmoved, Answered}
 
 pub unmoved : Unmoved
@@ -63,19 +64,23 @@ answer-short Done out more = tt
 answer-short (Sent count) out more = tt
 answer-short More out more = tt
 answer-short Good out more = tt
+answer-short (Woken wake) out more = tt
 answer-short (Reference reference commands) out more = tt
 answer-short (Refused refusal) out more = tt
 
 guard-short : (guard : Guard) → T (short (guardText guard))
 guard-short (Band low high) = tt
-guard-short (NoGuard refusal) = tt
+guard-short NoBand = tt
+
+kind-short : (kind : Kind) (more : List (List ℕ)) → T (short (kindName kind ∷ more))
+kind-short Idn more = tt
+kind-short ProtocolSelect more = tt
+kind-short SendRecv more = tt
+kind-short Idle more = tt
+kind-short Echo more = tt
 
 reading-short : (part : List ℕ) (reading : Reading) → T (short (readingText part reading))
-reading-short part (Taken Idn) = tt
-reading-short part (Taken (ProtocolSelect protocol parameters)) = tt
-reading-short part (Taken (SendRecv bytes)) = tt
-reading-short part (Taken (Idle settings)) = tt
-reading-short part (Taken Echo) = tt
+reading-short part (Taken frame) = kind-short (frame .kind) (hexes (rest part 2))
 reading-short part (NoFrame refusal) = tt
 
 question-short : (question : Question) (given : List ℕ) → T (short (questionText question given))
@@ -122,7 +127,7 @@ module _ (post : Post) (page out room text : List ℕ) (some : 0 < length page) 
   answer-begun : (answer : Answer) (bytes : List ℕ) (more : List (List ℕ)) → 0 < written text 0 (answerText answer bytes ++ more) .answer
   answer-begun answer bytes more = begun-short text (answerText answer bytes ++ more) (answer-short answer bytes more) long
 
-  by-obeyed : (call : Call) (number : ℕ) (given : List ℕ) → Spoken (obeyed call post number given page out room text)
+  by-obeyed : (call : Verb) (number : ℕ) (given : List ℕ) → Spoken (obeyed call post number given page out room text)
   by-obeyed (Acts act) number given =
       let ran = acting post act number given out in answer-begun (ran .answer .answer) (ran .bytes) (stateText (ran .answer .session))
   by-obeyed Feeds number given =
@@ -132,7 +137,7 @@ module _ (post : Post) (page out room text : List ℕ) (some : 0 < length page) 
   by-obeyed (Sets buffer) number given = begun text (word "ok") (stateText (post .session)) (omega arith) (omega arith)
   by-obeyed Helps number given = begun text page [] some fits
 
-  by-heard : (read : Asked) (bytes : List ℕ) → Spoken (heard read bytes post page out room text)
+  by-heard : (read : Asked) (bytes : List ℕ) → Spoken (carriedOut read bytes post page out room text)
   by-heard (Understood call number count) bytes = by-obeyed call number (fore bytes count)
   by-heard (Wrong fault) bytes = begun-short text (faultText fault) (fault-short fault) long
 

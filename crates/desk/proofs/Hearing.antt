@@ -5,27 +5,27 @@ use mathlib.Core.Path.{_≡_, refl, sym, subst, subst⁻¹, ap₂, _∙_}
 use mathlib.Core.List.{List, [], _∷_}
 use lib.ListN.{length}
 use borrow.Author.Tests.{le-leb, lt-leb, eq-eqb, ne-eqb}
-use Rattle.model.specs.Contract.{Is}
+use Rattle.words.specs.Contract.{Is}
 use Rattle.text.specs.Lines.{byteAt, skipped}
 use Rattle.text.specs.Writing.{Puts}
-use Rattle.calls.specs.declared.Call.{Call}
+use Rattle.calls.specs.declared.Verb.{Verb}
 use Rattle.calls.specs.declared.Asked.{Asked}
 use Rattle.calls.specs.Asking.{asked}
 use Rattle.desk.specs.declared.Post.{Post}
 use Rattle.desk.specs.declared.Done.{Done}
-use Rattle.desk.specs.Desk.{Left, Leaves, obeyed, heard, blankBytes, hearing, answered}
+use Rattle.desk.specs.Desk.{Left, Leaves, obeyed, carriedOut, blankBytes, hearing, answered}
 use Rattle.desk.proofs.Telling.{telling}
 
 module _ (post : Post) (page out room text : List ℕ) where
   -- a call by what it is known to be
-  pub by-call : {call known : Call} (number : ℕ) (given : List ℕ) {r : Done} {out′ room′ text′ : List ℕ} → call ≡ known
+  pub by-call : {call known : Verb} (number : ℕ) (given : List ℕ) {r : Done} {out′ room′ text′ : List ℕ} → call ≡ known
       → Leaves (obeyed known post number given page out room text) r out′ room′ text′
       → Leaves (obeyed call post number given page out room text) r out′ room′ text′
   by-call number given {r} {out′} {room′} {text′} e leaves =
-      subst⁻¹ (λ (c : Call). Leaves (obeyed c post number given page out room text) r out′ room′ text′) e leaves
+      subst⁻¹ (λ (c : Verb). Leaves (obeyed c post number given page out room text) r out′ room′ text′) e leaves
 
   -- and by the bytes that it is given
-  pub by-bytes : (call : Call) (number : ℕ) {given known : List ℕ} {r : Done} {out′ room′ text′ : List ℕ} → given ≡ known
+  pub by-bytes : (call : Verb) (number : ℕ) {given known : List ℕ} {r : Done} {out′ room′ text′ : List ℕ} → given ≡ known
       → Leaves (obeyed call post number given page out room text) r out′ room′ text′
       → Leaves (obeyed call post number known page out room text) r out′ room′ text′
   by-bytes call number {r = r} {out′} {room′} {text′} e leaves =
@@ -33,11 +33,11 @@ module _ (post : Post) (page out room text : List ℕ) where
 
   -- a line by what it was read as
   pub by-reading : (line : List ℕ) {read known : Asked} {bytes : List ℕ} {r : Done} {out′ room′ text′ : List ℕ} → Is (asked line blankBytes) read bytes
-      → read ≡ known → Leaves (heard known bytes post page out room text) r out′ room′ text′
+      → read ≡ known → Leaves (carriedOut known bytes post page out room text) r out′ room′ text′
       → Leaves (hearing line post page out room text) r out′ room′ text′
   by-reading line {r = r} {out′} {room′} {text′} reads e leaves =
       subst (λ (left : Left). Leaves left r out′ room′ text′)
-      (ap₂ (λ (a : Asked) (b : List ℕ). heard a b post page out room text) (sym e ∙ reads .answer) (reads .bytes)) leaves
+      (ap₂ (λ (a : Asked) (b : List ℕ). carriedOut a b post page out room text) (sym e ∙ reads .answer) (reads .bytes)) leaves
 
   pub empty : (line : List ℕ) {start : ℕ} → start ≡ skipped line 0 → length line ≤ start
       → Leaves (answered line post page out room text) (record { post = post; n = 0 }) out room text

@@ -7,31 +7,27 @@ use mathlib.Core.List.{List}
 use lib.Dec.{leb, eqb}
 use lib.ListN.{length}
 use Rattle.model.specs.declared.Session.{Session}
-use Rattle.model.specs.Frames.{idn, protocolSelect, sendRecv, idle, echo, settings}
+use Rattle.model.specs.Frames.{command}
 use Rattle.model.specs.Session.{power-on, pulse, request, reset, poll, read, calibrate, next, feed}
-use Rattle.model.proofs.Words.{ways}
-use Rattle.text.specs.Lines.{fore, rest, byteAt, skipped}
+use Rattle.words.proofs.Words.{ways}
+use Rattle.text.specs.Lines.{fore, byteAt, skipped}
 use Rattle.calls.specs.declared.Act.{Act}
-use Rattle.calls.specs.declared.Act.the-variants.{PowerOn, Pulse, Idn, Select, Exchange, Idle, Echo, Reset, Poll, Read, Calibrate, Next}
+use Rattle.calls.specs.declared.Act.the-variants.{PowerOn, Pulse, Sends, Reset, Poll, Read, Calibrate, Next}
 use Rattle.calls.specs.declared.Buffer.the-variants.{Out, Room}
-use Rattle.calls.specs.declared.Call.{Call}
-use Rattle.calls.specs.declared.Call.the-variants.{Acts, Feeds, Tells, Sets, Helps}
+use Rattle.calls.specs.declared.Verb.{Verb}
+use Rattle.calls.specs.declared.Verb.the-variants.{Acts, Feeds, Tells, Sets, Helps}
 use Rattle.calls.specs.declared.Asked.{Asked}
 use Rattle.calls.specs.declared.Asked.the-variants.{Understood, Wrong}
 use Rattle.calls.specs.Asking.{asked}
 use Rattle.acts.specs.Acts.{interfaceOf, planOf, acted}
 use Rattle.desk.specs.declared.Post.{Post}
-use Rattle.desk.specs.Desk.{Left, obeyed, heard, blankBytes}
+use Rattle.desk.specs.Desk.{Left, obeyed, carriedOut, blankBytes}
 use Rattle.desk.specs.Claims.{Made, OneCall}
 
 act-made : (s : Session) (act : Act) (number : ℕ) (given out : List ℕ) → Made s (acted s act number given out .answer .session)
 act-made s PowerOn number given out = record { call = power-on (interfaceOf number); is = refl }
 act-made s Pulse number given out = record { call = pulse; is = refl }
-act-made s Idn number given out = record { call = request idn out; is = refl }
-act-made s Select number given out = record { call = request (protocolSelect (byteAt given 0) (rest given 1)) out; is = refl }
-act-made s Exchange number given out = record { call = request (sendRecv given) out; is = refl }
-act-made s Idle number given out = record { call = request (idle (settings given)) out; is = refl }
-act-made s Echo number given out = record { call = request echo out; is = refl }
+act-made s (Sends kind) number given out = record { call = request (command kind given) out; is = refl }
 act-made s Reset number given out = record { call = reset out; is = refl }
 act-made s Poll number given out = record { call = poll out; is = refl }
 act-made s Read number given out = record { call = read number out; is = refl }
@@ -42,7 +38,7 @@ module _ (post : Post) (page out room text : List ℕ) where
   abbrev Once : Left → Type 0
   Once left = let after = left .done .answer .post .session in (after ≡ post .session) ⊎ Made (post .session) after
 
-  by-obeyed : (call : Call) (number : ℕ) (given : List ℕ) → Once (obeyed call post number given page out room text)
+  by-obeyed : (call : Verb) (number : ℕ) (given : List ℕ) → Once (obeyed call post number given page out room text)
   by-obeyed (Acts act) number given = inr (act-made (post .session) act number given (fore out (post .out)))
   by-obeyed Feeds number given = inr (record { call = feed given (fore room (post .room)); is = refl })
   by-obeyed (Tells question) number given = inl refl
@@ -50,7 +46,7 @@ module _ (post : Post) (page out room text : List ℕ) where
   by-obeyed (Sets Room) number given = inl refl
   by-obeyed Helps number given = inl refl
 
-  by-heard : (read : Asked) (bytes : List ℕ) → Once (heard read bytes post page out room text)
+  by-heard : (read : Asked) (bytes : List ℕ) → Once (carriedOut read bytes post page out room text)
   by-heard (Understood call number count) bytes = by-obeyed call number (fore bytes count)
   by-heard (Wrong fault) bytes = inl refl
 

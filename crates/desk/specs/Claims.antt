@@ -13,7 +13,7 @@ use Rattle.calls.specs.declared.Asked.the-variants.{Wrong}
 use Rattle.calls.specs.Asking.{asked}
 use Rattle.faults.specs.Faults.{faultText}
 use Rattle.desk.specs.declared.Post.{Post}
-use Rattle.desk.specs.Desk.{told, blankBytes, answered}
+use Rattle.desk.specs.Desk.{saying, blankBytes, answered}
 
 -- a call of the session leads from s to next
 pub record Made (s next : Session) : Type 0 where
@@ -31,7 +31,7 @@ abbrev pub Unmoved : Type 0
 Unmoved =
     (line : List ℕ) (post : Post) (page out room text : List ℕ) (fault : Fault) → skipped line 0 < length line → (byteAt line 0 ≡ 35 → ⊥)
     → asked line blankBytes .answer ≡ Wrong fault
-    → answered line post page out room text ≡ record { done = told post (faultText fault) text; out = out; room = room }
+    → answered line post page out room text ≡ record { done = saying post (faultText fault) text; out = out; room = room }
 
 -- a line with a word is answered, where the text has room for 80 bytes, for the line and for the page
 abbrev pub Answered : Type 0

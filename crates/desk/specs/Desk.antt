@@ -7,16 +7,16 @@ use lib.Dec.{leb, eqb}
 use lib.ListN.{length, replicate}
 use Rattle.model.specs.declared.Session.{Session}
 use Rattle.model.specs.declared.Outcome.{Outcome}
-use Rattle.model.specs.Words.{pick}
-use Rattle.model.specs.Contract.{Ran, Is}
+use Rattle.words.specs.Words.{pick}
+use Rattle.words.specs.Contract.{Ran, Is}
 use Rattle.model.specs.Session.{feed, step}
 use Rattle.text.specs.Lines.{fore, byteAt, skipped}
 use Rattle.text.specs.Writing.{written, word}
 use Rattle.calls.specs.declared.Act.{Act}
 use Rattle.calls.specs.declared.Buffer.{Buffer}
 use Rattle.calls.specs.declared.Buffer.the-variants.{Out, Room}
-use Rattle.calls.specs.declared.Call.{Call}
-use Rattle.calls.specs.declared.Call.the-variants.{Acts, Feeds, Tells, Sets, Helps}
+use Rattle.calls.specs.declared.Verb.{Verb}
+use Rattle.calls.specs.declared.Verb.the-variants.{Acts, Feeds, Tells, Sets, Helps}
 use Rattle.calls.specs.declared.Asked.{Asked}
 use Rattle.calls.specs.declared.Asked.the-variants.{Understood, Wrong}
 use Rattle.calls.specs.Asking.{asked}
@@ -39,8 +39,8 @@ lending post Room n = record { session = post .session; out = post .out; room = 
 -- ---- what a line leaves
 
 -- the post, and parts written to the front of the text
-abbrev pub told : Post → List (List ℕ) → List ℕ → Ran Done
-told post parts text = let ran = written text 0 parts in record { answer = record { post = post; n = ran .answer }; bytes = ran .bytes }
+abbrev pub saying : Post → List (List ℕ) → List ℕ → Ran Done
+saying post parts text = let ran = written text 0 parts in record { answer = record { post = post; n = ran .answer }; bytes = ran .bytes }
 
 -- that, and the two buffers that are lent from line to line
 pub record Left : Type 0 where
@@ -63,7 +63,7 @@ acting post act number given out = onFront (post .out) out (λ front. acted (pos
 abbrev pub actTold : Post → Ran Outcome → List ℕ → Ran Done
 actTold post ran text =
     let o = ran .answer in
-    told (withSession post (o .session)) (answerText (o .answer) (ran .bytes) ++ stateText (o .session)) text
+    saying (withSession post (o .session)) (answerText (o .answer) (ran .bytes) ++ stateText (o .session)) text
 
 -- a piece, with as much of the reply room as is lent
 abbrev pub feeding : Post → List ℕ → List ℕ → Ran Outcome
@@ -72,40 +72,40 @@ feeding post piece room = onFront (post .room) room (λ front. step (post .sessi
 abbrev pub feedTold : Post → List ℕ → Ran Outcome → List ℕ → Ran Done
 feedTold post piece ran text =
     let o = ran .answer in
-    told (withSession post (o .session))
+    saying (withSession post (o .session))
     (answerText (o .answer) [] ++ (usedText (o .used) (o .place) piece (ran .bytes) ++ stateText (o .session))) text
 
 abbrev pub setTold : Post → Buffer → ℕ → List ℕ → Ran Done
-setTold post buffer n text = told (lending post buffer n) (word "ok" ∷ stateText (post .session)) text
+setTold post buffer n text = saying (lending post buffer n) (word "ok" ∷ stateText (post .session)) text
 
 -- the page is what help tells
-abbrev pub obeyed : Call → Post → ℕ → List ℕ → List ℕ → List ℕ → List ℕ → List ℕ → Left
+abbrev pub obeyed : Verb → Post → ℕ → List ℕ → List ℕ → List ℕ → List ℕ → List ℕ → Left
 obeyed (Acts act) post number given page out room text =
     let ran = acting post act number given out in record { done = actTold post ran text; out = ran .bytes; room = room }
 obeyed Feeds post number given page out room text =
     let ran = feeding post given room in record { done = feedTold post given ran text; out = out; room = ran .bytes }
 obeyed (Tells question) post number given page out room text =
-    record { done = told post (questionText question given) text; out = out; room = room }
+    record { done = saying post (questionText question given) text; out = out; room = room }
 obeyed (Sets buffer) post number given page out room text = record { done = setTold post buffer number text; out = out; room = room }
-obeyed Helps post number given page out room text = record { done = told post (page ∷ []) text; out = out; room = room }
+obeyed Helps post number given page out room text = record { done = saying post (page ∷ []) text; out = out; room = room }
 
 -- ---- the line
 
 -- a line that was read as a call, with the buffer that has its bytes
-abbrev pub heard : Asked → List ℕ → Post → List ℕ → List ℕ → List ℕ → List ℕ → Left
-heard (Understood call number count) bytes post page out room text = obeyed call post number (fore bytes count) page out room text
-heard (Wrong fault) bytes post page out room text = record { done = told post (faultText fault) text; out = out; room = room }
+abbrev pub carriedOut : Asked → List ℕ → Post → List ℕ → List ℕ → List ℕ → List ℕ → Left
+carriedOut (Understood call number count) bytes post page out room text = obeyed call post number (fore bytes count) page out room text
+carriedOut (Wrong fault) bytes post page out room text = record { done = saying post (faultText fault) text; out = out; room = room }
 
 -- the buffer for the bytes of a line, which are two digits each
 abbrev pub blankBytes : List ℕ
 blankBytes = replicate 2048 0
 
 abbrev pub hearing : List ℕ → Post → List ℕ → List ℕ → List ℕ → List ℕ → Left
-hearing line post page out room text = let read = asked line blankBytes in heard (read .answer) (read .bytes) post page out room text
+hearing line post page out room text = let read = asked line blankBytes in carriedOut (read .answer) (read .bytes) post page out room text
 
 -- a line with no word has no answer, one that begins with # is copied, and any other is a call
 abbrev pub answered : List ℕ → Post → List ℕ → List ℕ → List ℕ → List ℕ → Left
 answered line post page out room text =
     pick (leb (length line) (skipped line 0)) (record { done = record { answer = record { post = post; n = 0 }; bytes = text }; out = out; room = room })
-    (pick (eqb (byteAt line 0) 35) (record { done = told post (line ∷ []) text; out = out; room = room })
+    (pick (eqb (byteAt line 0) 35) (record { done = saying post (line ∷ []) text; out = out; room = room })
     (hearing line post page out room text))

@@ -1,11 +1,11 @@
 // A line and what is kept from line to line, answered: the session and the lent buffers go in and come back.
 ghost use mathlib.Core.Path.{_≡_};
-ghost use Rattle.model.specs.Contract.{Is};
+ghost use Rattle.words.specs.Contract.{Is};
 ghost use Rattle.desk.specs.Desk.{withSession, lending, acting, actTold, feeding, feedTold, setTold, obeyed, hearing, answered, Leaves};
 use calls::Act;
 use calls::Asked;
 use calls::Buffer;
-use calls::Call;
+use calls::Verb;
 use calls::reading;
 use model::Session;
 
@@ -95,7 +95,7 @@ fn set(post: Post, buffer: Buffer, length: usize, text: &mut [u8]) -> Done
 
 // Does what a call says; the page is what help tells.
 fn obey<'a>(
-    call: Call,
+    call: Verb,
     post: Post,
     number: usize,
     given: &'a [u8],
@@ -107,14 +107,14 @@ fn obey<'a>(
     ensures { λ r. ⌜ Leaves (obeyed call post number (now (given .entry)) (now (page .entry)) (now (out .entry)) (now (room .entry)) (now (text .entry))) r (now (out .exit)) (now (room .exit)) (now (text .exit)) ⌝ }
 {
     match call {
-        Call::Acts(what) => act(what, post, number, given, out, text),
-        Call::Feeds => feed(post, given, room, text),
-        Call::Tells(question) => Done {
+        Verb::Acts(what) => act(what, post, number, given, out, text),
+        Verb::Feeds => feed(post, given, room, text),
+        Verb::Tells(question) => Done {
             post,
             n: questions::answer(question, given, text),
         },
-        Call::Sets(buffer) => set(post, buffer, number, text),
-        Call::Helps => Done {
+        Verb::Sets(buffer) => set(post, buffer, number, text),
+        Verb::Helps => Done {
             post,
             n: text::put(text, 0, page),
         },

@@ -3,7 +3,7 @@
 use Prim.Native.Nat.{ℕ, _+_, _-_, _^_}
 use mathlib.Core.List.{List, [], _∷_, _++_}
 use lib.Dec.{ltb}
-use Rattle.model.specs.Words.{pick}
+use Rattle.words.specs.Words.{pick}
 use Rattle.text.specs.Writing.{word, number}
 use Rattle.calls.specs.declared.Fault.{Fault}
 use Rattle.calls.specs.declared.Fault.the-variants.{Unknown, Longer, NoPair, NoNumber, NoInterface, Count, NoProtocol, Above}

@@ -3,125 +3,45 @@
 use Prim.Native.Nat.{ℕ, _+_, _-_, _*_, _%_, _<_}
 use native.Mathlib.Omega.{arith}
 use mathlib.Core.Path.{_≡_, refl, sym, ap, _∙_}
-use mathlib.Core.Bool.{Bool, true, false, not, _&&_, _||_, and-false, or-true, true≢false}
-use mathlib.Core.Logic.{_↔_, _⊎_, inl, inr}
-use mathlib.Core.List.{List, [], _∷_, _++_}
+use mathlib.Core.Bool.{Bool, true, false, not, _&&_, and-false, or-true}
+use mathlib.Core.Logic.{_⊎_, inl, inr}
+use mathlib.Core.List.{List, [], _∷_}
 use lib.Dec.{T, eqb, leb, ltb, leb·zero}
-use lib.ListN.{length}
 use borrow.Author.Tests.{ltb-true, ltb-false, leb-false, le-leb, lt-leb, ne-eqb, eqb-false}
-use Rattle.model.specs.declared.Interface.{Interface}
 use Rattle.model.specs.declared.Refusal.{Refusal}
-use Rattle.model.specs.declared.Refusal.the-variants.{NoBand}
-use Rattle.model.specs.declared.Written.{Written}
 use Rattle.model.specs.declared.Awaited.{Awaited}
 use Rattle.model.specs.declared.Phase.{Phase}
-use Rattle.model.specs.declared.Phase.the-variants.{Begun, Failed, Counting, Waking, Data}
-use Rattle.model.specs.declared.Progress.{Progress}
-use Rattle.model.specs.declared.First.{First as First′}
-use Rattle.model.specs.declared.First.the-variants.{Whole, Result, Fault, Unknown}
-use Rattle.model.specs.declared.Second.{Second}
-use Rattle.model.specs.declared.Second.the-variants.{Count, Event, Wrong}
+use Rattle.model.specs.declared.Wake.{Wake}
+use Rattle.model.specs.declared.End.{End}
+use Rattle.model.specs.declared.End.the-variants.{Good, Woken, Error, Malformed}
+use Rattle.model.specs.declared.Step.{Step}
+use Rattle.model.specs.declared.Step.the-variants.{On as reading, Over}
 use Rattle.model.specs.declared.Verdict.{Verdict}
-use Rattle.model.specs.declared.Verdict.the-variants.{More, Good, Error, Malformed, NoRoom}
+use Rattle.model.specs.declared.Verdict.the-variants.{More, Ended, NoRoom}
 use Rattle.model.specs.declared.Place.{Place}
 use Rattle.model.specs.declared.Fed.{Fed}
 use Rattle.model.specs.declared.Plan.{Plan}
 use Rattle.model.specs.declared.Search.{Search}
 use Rattle.model.specs.declared.Calibration.{Calibration}
 use Rattle.model.specs.declared.Calibration.the-variants.{Off, On}
-use Rattle.model.specs.declared.Seen.{Seen}
-use Rattle.model.specs.declared.Seen.the-variants.{Tag, Timeout}
-use Rattle.model.specs.declared.Turn.{Turn}
-use Rattle.model.specs.declared.Guard.{Guard}
-use Rattle.model.specs.declared.Guard.the-variants.{Band}
-use Rattle.model.specs.declared.State.{State}
-use Rattle.model.specs.declared.State.the-variants.{PowerUp, Ready, Selected, Waiting, Lost}
 use Rattle.model.specs.declared.Session.{Session}
 use Rattle.model.specs.declared.Answer.{Answer}
 use Rattle.model.specs.declared.Outcome.{Outcome}
-use Rattle.model.specs.Words.{pick}
-use Rattle.model.specs.Contract.{Ran}
-use Rattle.model.specs.Refusals.{numberOf}
-use Rattle.model.specs.Frames.{Command, idn, protocolSelect, sendRecv, idle, echo, sourceAllowed, allowed, Transfer, send, bytes, permitted}
-use Rattle.model.specs.Replies.{leastRoom, firstOf as firstOf′, secondOf, wakes, with, fedClose, fedEvent, fedData, fedBySecond, fedCount, fedByFirst, fedPhase}
-use Rattle.model.specs.Calibration.{settingsAt, heard, band}
-use Rattle.model.specs.Session.{made, refuse, busy, isOff, unready, barred, awaiting, sentBy, sending, isDue, eventIn, seen, afterGood, turned, takenBy, taken, Call, power-on, pulse, request, reset, poll, read, calibrate, next, feed, step}
-use Rattle.model.specs.Checks.{Check, _when_, tooLong, tooShort, selectsOne, outOfPlace, unfit, away, unselected, closed, isReady, answerChecks, replyChecks, checks, none, number, numbered, firstOf, Passes, First, isMild}
+use Rattle.words.specs.Words.{pick}
+use Rattle.words.specs.Contract.{Ran}
+use Rattle.model.specs.Refusals.{none as unnumbered, number, bandNumber}
+use Rattle.model.specs.Frames.{idle, sourceAllowed, allowed}
+use Rattle.model.specs.Replies.{formOf, reached, hasData, fedBy, fedFrom}
+use Rattle.model.specs.Calibration.{settingsAt, mostCommands, isTag, tagged, timedOut, band}
+use Rattle.model.specs.Session.{Awaits, none, some, awaits, refuse, lent, turned, woken, errorBy, endedBy, outcomeBy, wakeChecks, endChecks, replyChecks, pieceChecks, replies, continues, takes, checks, does, table, Call, power-on, pulse, request, reset, poll, read, calibrate, next, feed, step}
+use Rattle.model.specs.Checks.{Check, _when_, judged, mild}
 use Rattle.model.specs.Claims.{Exactly, Untouched, BandRefused, Sends}
-use Rattle.model.proofs.Words.{ways, each}
-
--- ---- the first row that holds, of any rows
-
-no-number : (k : ℕ) → none ≡ number k → ⊥
-no-number k e = let z : _≡_ {A = ℕ} 0 1 = cc in omega arith
-
-first→ : (rows : List Check) (k : ℕ) → firstOf rows ≡ number k → First k rows
-first→ [] k e = absurd (no-number k e)
-first→ (r ∷ rows) k e = go (r .number) (r .holds) (first→ rows k) e
-  where
-    go : (j : ℕ) (b : Bool) → (firstOf rows ≡ number k → First k rows) → firstOf (j when b ∷ rows) ≡ number k → First k (j when b ∷ rows)
-    go j true rest e = let same : j ≡ k = cc in ([], rows, ap (λ (x : ℕ). x when true ∷ rows) same, tt)
-    go j false rest e =
-        let (before, after, split, fail) = rest e in
-        (j when false ∷ before, after, ap (λ (x : List Check). j when false ∷ x) split, (refl, fail))
-
-first← : (before after : List Check) (k : ℕ) → Passes before → firstOf (before ++ k when true ∷ after) ≡ number k
-first← [] after k fail = refl
-first← (r ∷ before) after k (fails, fail) = simp fails (first← before after k fail)
-
-first-is : (rows : List Check) (k : ℕ) → (firstOf rows ≡ number k) ↔ First k rows
-first-is rows k = (first→ rows k, λ (before, after, split, fail). ap firstOf split ∙ first← before after k fail)
-
--- ---- the model's answer has the first number of its call's checks
+use Rattle.words.proofs.Words.{ways, each}
+use Rattle.model.proofs.Ordering.{passed, through, joined, Rated, Plain, first-is, none-mild, by-step}
 
 decide : {P : Type 0} (b : Bool) → (b ≡ true → P) → (b ≡ false → P) → P
 decide true p q = p refl
 decide false p q = q refl
-
-abbrev Agree : Session → Call → Type 0
-Agree s c = numbered (step s c .answer .answer) ≡ firstOf (checks s c)
-
--- bytes that are sent: 2, 1
-agree-sent : (s : Session) (t : Transfer) (out : List ℕ) (after : Session)
-    → numbered (sending s t out after .answer .answer) ≡ firstOf (2 when unfit s t ∷ 1 when tooLong s t out ∷ [])
-agree-sent s t out after =
-    decide (permitted (s .interface) t) (λ p. decide (tooLong s t out) (λ l. simp (p, l)) (λ l. simp (p, l)))
-    (λ p. simp p)
-
--- two tests agree if they do in every state
-in-every : (p q : State → Bool) → p PowerUp ≡ q PowerUp → p Ready ≡ q Ready → ((n : ℕ) → p (Selected n) ≡ q (Selected n))
-    → ((r : Progress) (n : ℕ) → p (Waiting r n) ≡ q (Waiting r n)) → p Lost ≡ q Lost → (state : State) → p state ≡ q state
-in-every p q a b d e f PowerUp = a
-in-every p q a b d e f Ready = b
-in-every p q a b d e f (Selected n) = d n
-in-every p q a b d e f (Waiting r n) = e r n
-in-every p q a b d e f Lost = f
-
--- the session's tests are those of the table
-unready-is : (c : Command) (state : State) → unready state c ≡ closed c state
-unready-is idn = in-every (λ z. unready z idn) away refl refl (λ _. refl) (λ _ _. refl) refl
-unready-is (protocolSelect protocol parameters) = in-every (λ z. unready z (protocolSelect protocol parameters)) away refl refl (λ _. refl) (λ _ _. refl) refl
-unready-is (sendRecv payload) = in-every (λ z. unready z (sendRecv payload)) unselected refl refl (λ _. refl) (λ _ _. refl) refl
-unready-is (idle s) = in-every (λ z. unready z (idle s)) away refl refl (λ _. refl) (λ _ _. refl) refl
-unready-is echo = in-every (λ z. unready z echo) away refl refl (λ _. refl) (λ _ _. refl) refl
-
-barred-is : (c : Command) (state : State) → barred state c ≡ outOfPlace c state
-barred-is idn state = refl
-barred-is (protocolSelect protocol parameters) state = refl
-barred-is (sendRecv []) state = in-every (λ z. barred z (sendRecv [])) (λ z. not (selectsOne z)) refl refl (λ _. refl) (λ _ _. refl) refl state
-barred-is (sendRecv (x ∷ xs)) state = refl
-barred-is (idle s) state = refl
-barred-is echo state = refl
-
-due-is : (found : Search) (state : State) → isDue state found ≡ (isReady state && ltb (found .commands) 8)
-due-is found = in-every (λ z. isDue z found) (λ z. isReady z && ltb (found .commands) 8) refl refl (λ _. refl) (λ _ _. refl) refl
-
-agree-request : (s : Session) (c : Command) (out : List ℕ) → Agree s (request c out)
-agree-request s c out =
-    decide (busy s) (λ b. simp b)
-    (λ b. decide (unready (s .state) c) (λ u. simp (b, u, sym (unready-is c (s .state)) ∙ u))
-    (λ u. decide (barred (s .state) c) (λ r. simp (b, u, r, sym (unready-is c (s .state)) ∙ u, sym (barred-is c (s .state)) ∙ r))
-    (λ r. simp (b, u, r, sym (unready-is c (s .state)) ∙ u, sym (barred-is c (s .state)) ∙ r) (agree-sent s (send c) out (awaiting s c (s .calibration))))))
 
 -- a calibration's command is always allowed
 holds : (b : Bool) → T b → b ≡ true
@@ -134,235 +54,156 @@ allowed-at plan level =
     let source : sourceAllowed (0x03 + 64 * p) ≡ true = holds (sourceAllowed (0x03 + 64 * p)) (each (λ (q : ℕ). sourceAllowed (0x03 + 64 * q)) 4 tt p (omega arith)) in
     simp (source, leb·zero level, or-true)
 
-agree-tested : (s : Session) (plan : Plan) (level : ℕ) (out : List ℕ) (after : Session)
-    → numbered (sending s (send (idle (settingsAt plan level))) out after .answer .answer)
-    ≡ firstOf (1 when tooLong s (send (idle (settingsAt plan level))) out ∷ [])
-agree-tested s plan level out after =
-    agree-sent s (send (idle (settingsAt plan level))) out after
-    ∙ ap (λ (b : Bool). firstOf (2 when not b ∷ 1 when tooLong s (send (idle (settingsAt plan level))) out ∷ [])) (allowed-at plan level)
+-- ---- what a reply's bytes say
 
-agree-calibrate : (s : Session) (plan : Plan) (out : List ℕ) → Agree s (calibrate plan out)
-agree-calibrate s plan out =
-    decide (busy s) (λ b. simp b)
-    (λ b. decide (isOff (s .state)) (λ u. simp (b, u))
-    (λ u. decide (ltb 3 (plan .prescaler)) (λ r. simp (b, u, r))
-    (λ r. simp (b, u, r) (agree-tested s plan 0x00 out _))))
+-- an answer is the first of the rows that holds, or it is no refusal; and none of them is mild
+pub record Says (answer : Answer) (rows : List Check) : Type 0 where
+  pub other : Answer
+  pub plain : Plain other
+  pub same : answer ≡ judged rows Answer.Refused other
+  pub firm : Rated false rows
 
-agree-next : (i : Interface) (state : State) (c : Calibration) (out : List ℕ) → Agree (made i state c) (next out)
-agree-next i state Off out = refl
-agree-next i state (On plan found) out =
-    decide (isDue state found)
-    (λ d. simp (d, sym (due-is found state) ∙ d) (agree-tested (made i state (On plan found)) plan (found .level) out _))
-    (λ d. simp (d, sym (due-is found state) ∙ d))
+no-refusal : (a : Answer) → Plain a → Says a []
+no-refusal a p = record { other = a; plain = p; same = refl; firm = tt }
 
--- ---- a piece
+one-refusal : (k : Refusal) → mild k ≡ false → Says (Answer.Refused k) (k when true ∷ [])
+one-refusal k m = record { other = Answer.Done; plain = λ j e. clash e; same = refl; firm = (m, tt) }
+  where
+    clash : {j : Refusal} → Answer.Done ≡ Answer.Refused j → ⊥
+    clash e = let z : _≡_ {A = ℕ} 0 1 = cc in omega arith
 
--- where an answer leads, by its number
-agree-heard : (found : Search) (x : Seen) (plan : Plan) (i : Interface) (state : State) (k : ℕ) (place : Place)
-    → numbered (turned (heard found x) plan i state k place .answer) ≡ firstOf (answerChecks (On plan found) x)
-agree-heard found Tag plan i state k place =
-    decide (ltb (found .commands) 2) (λ e. let h = ltb-true (found .commands) 2 e in simp (e, ne-eqb (found .commands) 2 (omega arith)))
-    (λ e. decide (eqb (found .commands) 2) (λ e′. simp (e, e′)) (λ e′. decide (ltb (found .commands) 8) (λ e″. simp (e, e′, e″)) (λ e″. simp (e, e′, e″))))
-agree-heard found Timeout plan i state k place =
-    let n = found .commands in
-    decide (ltb n 2) (λ e. simp e)
-    (λ e. decide (ltb n 8)
-    (λ e′. let m : leb 8 n ≡ false = lt-leb 8 n (ltb-true n 8 e′) in decide (eqb n 2) (λ e″. simp (e, e′, e″, m)) (λ e″. simp (e, e′, e″, m)))
-    (λ e′. let h = ltb-false n 8 e′ in
-    let j : eqb n 2 ≡ false = ne-eqb n 2 (omega arith) in
-    let m : leb 8 n ≡ true = le-leb 8 n h in
-    decide (ltb (found .level) 4) (λ e″. simp (e, e′, e″, j, m)) (λ e″. simp (e, e′, e″, j, m))))
+good : Plain Answer.Good
+good k e = let z : _≡_ {A = ℕ} 0 1 = cc in omega arith
+
+goes-on : (w : Wake) → Plain (Answer.Woken w)
+goes-on w k e = let z : _≡_ {A = ℕ} 0 1 = cc in omega arith
+
+named : (r n : ℕ) → Plain (Answer.Reference r n)
+named r n k e = let z : _≡_ {A = ℕ} 0 1 = cc in omega arith
+
+-- where an answer leads, by whether it was a tag
+module _ (found : Search) (plan : Plan) (w : Wake) (s : Session) (k : ℕ) (place : Place) where
+  abbrev n : ℕ
+  n = found .commands
+
+  abbrev rows : Bool → List Check
+  rows tag =
+      Refusal.HighestTag n when (tag && eqb n 2)
+      ∷ Refusal.LowestTimeout n when (not tag && ltb n 2)
+      ∷ Refusal.NoLevel n when (not tag && leb mostCommands n && ltb (found .level) 4) ∷ []
+
+  abbrev led : Bool → Answer
+  led tag = turned (pick tag (tagged found) (timedOut found)) plan w s k place .answer
+
+  by-tag : (a : Answer) → Plain a → turned (tagged found) plan w s k place .answer ≡ judged (rows true) Answer.Refused a → Says (led true) (rows true)
+  by-tag a p e = record { other = a; plain = p; same = e; firm = (refl, (refl, (refl, tt))) }
+
+  by-timeout : (a : Answer) → Plain a → turned (timedOut found) plan w s k place .answer ≡ judged (rows false) Answer.Refused a → Says (led false) (rows false)
+  by-timeout a p e = record { other = a; plain = p; same = e; firm = (refl, (refl, (refl, tt))) }
+
+  says-heard : (tag : Bool) → Says (led tag) (rows tag)
+  says-heard true =
+      let goes = by-tag (Answer.Woken w) (goes-on w) in
+      decide (ltb n 2) (λ e. let h = ltb-true n 2 e in goes (simp (e, ne-eqb n 2 (omega arith))))
+      (λ e. decide (eqb n 2) (λ e′. goes (simp (e, e′)))
+      (λ e′. decide (ltb n mostCommands) (λ e″. goes (simp (e, e′, e″)))
+      (λ e″. by-tag (Answer.Reference (found .level) n) (named _ _) (simp (e, e′, e″)))))
+  says-heard false =
+      let goes = by-timeout (Answer.Woken w) (goes-on w) in
+      decide (ltb n 2) (λ e. goes (simp e))
+      (λ e. decide (ltb n mostCommands)
+      (λ e′. let m : leb mostCommands n ≡ false = lt-leb mostCommands n (ltb-true n mostCommands e′) in
+      decide (eqb n 2) (λ e″. goes (simp (e, e′, e″, m))) (λ e″. goes (simp (e, e′, e″, m))))
+      (λ e′. let h = ltb-false n mostCommands e′ in
+      let j : eqb n 2 ≡ false = ne-eqb n 2 (omega arith) in
+      let m : leb mostCommands n ≡ true = le-leb mostCommands n h in
+      decide (ltb (found .level) 4) (λ e″. goes (simp (e, e′, e″, j, m)))
+      (λ e″. by-timeout (Answer.Reference (found .level - 4) n) (named _ _) (simp (e, e′, e″, j, m)))))
 
 -- a piece that is read, in a room that is long enough
 abbrev Roomy : Verdict → Type 0
 Roomy More = Unit {0}
-Roomy Good = Unit {0}
-Roomy (Error code) = Unit {0}
-Roomy Malformed = Unit {0}
+Roomy (Ended e) = Unit {0}
 Roomy NoRoom = ⊥
 
-agree-brought : (v : Verdict) (r : Fed) (i : Interface) (state : State) (c : Calibration) (a : Awaited) (selected : ℕ) (piece : List ℕ)
-    → Roomy v → numbered (takenBy v r (made i state c) a selected piece .answer) ≡ firstOf (replyChecks v c (seen (eventIn piece (r .place))))
-agree-brought More r i state c a selected piece ok = refl
-agree-brought Good r i state Off a selected piece ok = refl
-agree-brought Good r i state (On plan found) a selected piece ok = agree-heard found (seen (eventIn piece (r .place))) plan i (afterGood a selected) (r .used) (r .place)
-agree-brought (Error code) r i state Off a selected piece ok = refl
-agree-brought (Error code) r i state (On plan found) a selected piece ok = refl
-agree-brought Malformed r i state c a selected piece ok = refl
-agree-brought NoRoom r i state c a selected piece ok = absurd ok
+says-woken : (c : Calibration) (w : Wake) (s : Session) (k : ℕ) (place : Place) → Says (woken c w s k place .answer) (wakeChecks c w)
+says-woken Off w s k place = no-refusal (Answer.Woken w) (goes-on w)
+says-woken (On plan found) w s k place = says-heard found plan w s k place (isTag w)
 
-abbrev RoomyRan : Ran Fed → Type 0
-RoomyRan m = Roomy (m .answer .verdict)
+says-error : (c : Calibration) (code : ℕ) → Says (Answer.Refused (errorBy c code)) (errorBy c code when true ∷ [])
+says-error Off code = one-refusal (Refusal.ChipError code) refl
+says-error (On plan found) code = one-refusal (Refusal.CalibrationError code (found .commands)) refl
 
-roomy-close : (a : Awaited) (code : ℕ) (xs room : List ℕ) (i : ℕ) → RoomyRan (with room (fedClose a code xs i))
-roomy-close a code [] room i = tt
-roomy-close a code (b ∷ bs) room i = ways (λ (r : Fed). RoomyRan (with room r)) (eqb b 0x00) (λ _. tt) (λ _. tt)
+says-ended : (e : End) (s : Session) (a : Awaited) (selected k : ℕ) (place : Place) → Says (endedBy e s a selected k place .answer) (endChecks e (s .calibration))
+says-ended Good s a selected k place = no-refusal Answer.Good good
+says-ended (Woken w) s a selected k place = says-woken (s .calibration) w s k place
+says-ended (Error code) s a selected k place = says-error (s .calibration) code
+says-ended (Malformed at b) s a selected k place = one-refusal Refusal.Malformed refl
 
-roomy-event : (a : Awaited) (xs room : List ℕ) (i : ℕ) → RoomyRan (with room (fedEvent a xs i))
-roomy-event a [] room i = tt
-roomy-event a (e ∷ es) room i = ways (λ (r : Fed). RoomyRan (with room r)) (wakes a e) (λ _. tt) (λ _. tt)
+says-taken : (v : Verdict) (r : Fed) (s : Session) (a : Awaited) (selected : ℕ) → Roomy v → Says (outcomeBy v r s a selected .answer) (replyChecks v (s .calibration))
+says-taken More r s a selected ok = no-refusal Answer.More (λ k q. let z : _≡_ {A = ℕ} 0 1 = cc in omega arith)
+says-taken (Ended e) r s a selected ok = says-ended e s a selected (r .used) (r .place)
+says-taken NoRoom r s a selected ok = absurd ok
 
-roomy-data : (a : Awaited) (have count : ℕ) (xs room : List ℕ) (i : ℕ) → RoomyRan (fedData a have count xs room i)
-roomy-data a have count xs room i =
-    ways RoomyRan (leb (count - have) (length xs)) (λ _. ways RoomyRan (eqb have 0) (λ _. tt) (λ _. tt)) (λ _. tt)
+-- what is read is never a room too short
+roomy-by : (s : Step) (a : Awaited) (h k : ℕ) (ds room : List ℕ) (start u : ℕ) → Roomy (fedBy s a h k ds room start u .answer .verdict)
+roomy-by (reading q) a h k ds room start u = tt
+roomy-by (Over e) a h k ds room start u = ways (λ (m : Ran Fed). Roomy (m .answer .verdict)) (hasData e) (λ _. tt) (λ _. tt)
 
-roomy-second : (x : Second) (a : Awaited) (b : ℕ) (xs room : List ℕ) (i : ℕ) → RoomyRan (fedBySecond x a b xs room i)
-roomy-second Count a b xs room i = roomy-data a 0 b xs room i
-roomy-second Event a b xs room i = roomy-event a xs room i
-roomy-second Wrong a b xs room i = tt
+roomy-fed : (a : Awaited) (p : Phase) (xs room : List ℕ) → Roomy (fedFrom a p xs room .answer .verdict)
+roomy-fed a p xs room = roomy-by (reached (formOf a) (reading p) xs) a _ _ _ room _ _
 
-roomy-count : (a : Awaited) (xs room : List ℕ) (i : ℕ) → RoomyRan (fedCount a xs room i)
-roomy-count a [] room i = tt
-roomy-count a (b ∷ bs) room i = roomy-second (secondOf a b) a b bs room (i + 1)
+-- ---- what any call says
 
-roomy-first : (x : First′) (a : Awaited) (b : ℕ) (xs room : List ℕ) (i : ℕ) → RoomyRan (fedByFirst x a b xs room i)
-roomy-first Whole a b xs room i = tt
-roomy-first Result a b xs room i = roomy-count a xs room i
-roomy-first Fault a b xs room i = roomy-close a b xs room i
-roomy-first Unknown a b xs room i = tt
+done : Plain Answer.Done
+done k e = let z : _≡_ {A = ℕ} 0 1 = cc in omega arith
 
-roomy : (phase : Phase) (a : Awaited) (x : ℕ) (xs room : List ℕ) → RoomyRan (fedPhase phase a (x ∷ xs) room)
-roomy Begun a x xs room = roomy-first (firstOf′ a x) a x xs room 1
-roomy (Failed code) a x xs room = roomy-close a code (x ∷ xs) room 0
-roomy Counting a x xs room = roomy-count a (x ∷ xs) room 0
-roomy Waking a x xs room = roomy-event a (x ∷ xs) room 0
-roomy (Data have count) a x xs room = ways RoomyRan (ltb have count) (λ _. roomy-data a have count (x ∷ xs) room 0) (λ _. tt)
+sent : (n : ℕ) → Plain (Answer.Sent n)
+sent n k e = let z : _≡_ {A = ℕ} 0 1 = cc in omega arith
 
-agree-piece : (i : Interface) (p : Progress) (selected : ℕ) (c : Calibration) (x : ℕ) (xs room : List ℕ)
-    → Agree (made i (Waiting p selected) c) (feed (x ∷ xs) room)
-agree-piece i p selected c x xs room =
-    let m = fedPhase (p .phase) (p .awaited) (x ∷ xs) room in
-    decide (tooShort room) (λ l. simp l)
-    (λ l. simp l (agree-brought (m .answer .verdict) (m .answer) i (Waiting p selected) c (p .awaited) selected (x ∷ xs) (roomy (p .phase) (p .awaited) x xs room)))
+says-next : (c : Calibration) (s : Session) (out : List ℕ) → Says (continues c s out .answer .answer) []
+says-next Off s out = no-refusal Answer.Done done
+says-next (On plan found) s out = no-refusal (Answer.Sent _) (sent _)
 
-agree-feed : (i : Interface) (state : State) (c : Calibration) (piece room : List ℕ) → Agree (made i state c) (feed piece room)
-agree-feed i state c [] room = refl
-agree-feed i PowerUp c (x ∷ xs) room = refl
-agree-feed i Ready c (x ∷ xs) room = refl
-agree-feed i (Selected protocol) c (x ∷ xs) room = refl
-agree-feed i (Waiting p selected) c (x ∷ xs) room = agree-piece i p selected c x xs room
-agree-feed i Lost c (x ∷ xs) room = refl
+says-piece : (w : Awaits) (s : Session) (x : ℕ) (xs room : List ℕ)
+    → Says (takes w s (x ∷ xs) room .answer .answer) (pieceChecks w (s .calibration) (x ∷ xs) room)
+says-piece none s x xs room = no-refusal Answer.Done done
+says-piece (some p selected) s x xs room =
+    let m = fedFrom (p .awaited) (p .phase) (x ∷ xs) room in
+    says-taken (m .answer .verdict) (m .answer) s (p .awaited) selected (roomy-fed (p .awaited) (p .phase) (x ∷ xs) room)
 
-agree : (s : Session) (c : Call) → Agree s c
-agree s (power-on i) = refl
-agree s pulse = refl
-agree s (request c out) = agree-request s c out
-agree s (reset out) = agree-sent s Transfer.reset out _
-agree s (poll out) = agree-sent s Transfer.poll out _
-agree s (read n out) = agree-sent s (Transfer.read n) out _
-agree s (calibrate plan out) = agree-calibrate s plan out
-agree s (next out) = agree-next (s .interface) (s .state) (s .calibration) out
-agree s (feed piece room) = agree-feed (s .interface) (s .state) (s .calibration) piece room
+says-all : (s : Session) (c : Call) → Says (does s c .answer .answer) (replies s c)
+says-all s (power-on i) = no-refusal Answer.Done done
+says-all s pulse = no-refusal Answer.Done done
+says-all s (request c out) = no-refusal (Answer.Sent _) (sent _)
+says-all s (reset out) = no-refusal (Answer.Sent _) (sent _)
+says-all s (poll out) = no-refusal (Answer.Sent _) (sent _)
+says-all s (read n out) = no-refusal (Answer.Sent _) (sent _)
+says-all s (calibrate plan out) = no-refusal (Answer.Sent _) (sent _)
+says-all s (next out) = says-next (s .calibration) s out
+says-all s (feed [] room) = no-refusal Answer.More (λ k e. let z : _≡_ {A = ℕ} 0 1 = cc in omega arith)
+says-all s (feed (x ∷ xs) room) = says-piece (awaits (s .state)) s x xs room
+
+-- ---- the promises
 
 pub exactly : Exactly
 exactly s c k =
-    let f = first-is (checks s c) k in
-    (λ e. f .0 (sym (agree s c) ∙ e), λ w. agree s c ∙ f .1 w)
+    let d = says-all s c in
+    let told : step s c .answer .answer ≡ judged (table s c) Answer.Refused (d .other) =
+    through (λ k. refuse s k (lent c)) (does s c) (λ (m : Ran Outcome). m .answer .answer) (checks s c)
+    ∙ ap (judged (checks s c) Answer.Refused) (d .same) ∙ sym (joined Answer.Refused (d .other) (checks s c) (replies s c)) in
+    let f = first-is (table s c) (d .other) k (d .plain) in
+    (λ e. f .0 (sym told ∙ e), λ w. told ∙ f .1 w)
 
--- ---- the mild refusals
-
--- where this is what a call did, a mild refusal has left the session and the buffer as they were
-abbrev Mild : Session → List ℕ → Ran Outcome → Type 0
-Mild s buffer m = (k : Refusal) → m .answer .answer ≡ Answer.Refused k → isMild (numberOf k) ≡ true → m ≡ refuse s k buffer
-
-mild-refused : (s : Session) (buffer : List ℕ) (k : Refusal) → Mild s buffer (refuse s k buffer)
-mild-refused s buffer k j e h = let same : k ≡ j = cc in ap (λ (x : Refusal). refuse s x buffer) same
-
--- an answer that is no refusal, or a refusal that is not mild
-not-refused : (a : Answer) (k : Refusal) → numbered a ≡ none → a ≡ Answer.Refused k → ⊥
-not-refused a k n e = no-number (numberOf k) (sym n ∙ ap numbered e)
-
-not-mild : (j k : Refusal) → isMild (numberOf j) ≡ false → Answer.Refused j ≡ Answer.Refused k → isMild (numberOf k) ≡ true → ⊥
-not-mild j k n e h = let same : j ≡ k = cc in true≢false (sym h ∙ ap (λ (x : Refusal). isMild (numberOf x)) (sym same) ∙ n)
-
-mild-sending : (s : Session) (t : Transfer) (out : List ℕ) (after : Session) → Mild s out (sending s t out after)
-mild-sending s t out after =
-    let D : Ran Written → Type 0 = λ w. Mild s out (record { answer = sentBy (w .answer) s after; bytes = w .bytes }) in
-    ways D (permitted (s .interface) t)
-    (λ _. ways D (ltb (length out) (length (bytes (s .interface) t))) (λ _. mild-refused s out Refusal.Short)
-    (λ _ k e h. absurd (not-refused (Answer.Sent (length (bytes (s .interface) t))) k refl e)))
-    (λ _. mild-refused s out Refusal.Invalid)
-
--- where an answer leads is no mild refusal
-abbrev Firm : Outcome → Type 0
-Firm o = (k : Refusal) → o .answer ≡ Answer.Refused k → isMild (numberOf k) ≡ true → ⊥
-
-firm-heard : (found : Search) (x : Seen) (plan : Plan) (i : Interface) (state : State) (n : ℕ) (place : Place) → Firm (turned (heard found x) plan i state n place)
-firm-heard found Tag plan i state n place =
-    let F : Turn → Type 0 = λ t. Firm (turned t plan i state n place) in
-    ways F (ltb (found .commands) 2) (λ _ k e h. not-refused Answer.Good k refl e)
-    (λ _. ways F (eqb (found .commands) 2) (λ _ k e h. not-mild (Refusal.HighestTag (found .commands)) k refl e h)
-    (λ _. ways F (ltb (found .commands) 8) (λ _ k e h. not-refused Answer.Good k refl e)
-    (λ _ k e h. not-refused (Answer.Reference (found .level) (found .commands)) k refl e)))
-firm-heard found Timeout plan i state n place =
-    let F : Turn → Type 0 = λ t. Firm (turned t plan i state n place) in
-    ways F (ltb (found .commands) 2) (λ _ k e h. not-mild (Refusal.LowestTimeout (found .commands)) k refl e h)
-    (λ _. ways F (eqb (found .commands) 2) (λ _ k e h. not-refused Answer.Good k refl e)
-    (λ _. ways F (ltb (found .commands) 8) (λ _ k e h. not-refused Answer.Good k refl e)
-    (λ _. ways F (ltb (found .level) 4) (λ _ k e h. not-mild (Refusal.NoLevel (found .commands)) k refl e h)
-    (λ _ k e h. not-refused (Answer.Reference (found .level - 4) (found .commands)) k refl e))))
-
-firm-taken : (v : Verdict) (r : Fed) (i : Interface) (state : State) (c : Calibration) (a : Awaited) (selected : ℕ) (piece : List ℕ)
-    → Roomy v → Firm (takenBy v r (made i state c) a selected piece)
-firm-taken More r i state c a selected piece ok k e h = not-refused Answer.More k refl e
-firm-taken Good r i state Off a selected piece ok k e h = not-refused Answer.Good k refl e
-firm-taken Good r i state (On plan found) a selected piece ok k e h =
-    firm-heard found (seen (eventIn piece (r .place))) plan i (afterGood a selected) (r .used) (r .place) k e h
-firm-taken (Error code) r i state Off a selected piece ok k e h = not-mild (Refusal.ChipError code) k refl e h
-firm-taken (Error code) r i state (On plan found) a selected piece ok k e h = not-mild (Refusal.CalibrationError code (found .commands)) k refl e h
-firm-taken Malformed r i state c a selected piece ok k e h = not-mild Refusal.Malformed k refl e h
-firm-taken NoRoom r i state c a selected piece ok k e h = ok
-
-mild-piece : (i : Interface) (p : Progress) (selected : ℕ) (c : Calibration) (x : ℕ) (xs room : List ℕ)
-    → Mild (made i (Waiting p selected) c) room (taken (made i (Waiting p selected) c) p selected (x ∷ xs) room)
-mild-piece i p selected c x xs room =
-    let s = made i (Waiting p selected) c in
-    let D : Ran Fed → Type 0 = λ m. Mild s room (record { answer = takenBy (m .answer .verdict) (m .answer) s (p .awaited) selected (x ∷ xs); bytes = m .bytes }) in
-    let m = fedPhase (p .phase) (p .awaited) (x ∷ xs) room in
-    ways D (ltb (length room) leastRoom) (λ _. mild-refused s room Refusal.Short)
-    (λ _ k e h. absurd (firm-taken (m .answer .verdict) (m .answer) i (Waiting p selected) c (p .awaited) selected (x ∷ xs) (roomy (p .phase) (p .awaited) x xs room) k e h))
-
-mild-feed : (i : Interface) (state : State) (c : Calibration) (piece room : List ℕ) → Mild (made i state c) room (step (made i state c) (feed piece room))
-mild-feed i state c [] room = λ k e h. absurd (not-refused Answer.More k refl e)
-mild-feed i PowerUp c (x ∷ xs) room = mild-refused (made i PowerUp c) room Refusal.Unawaited
-mild-feed i Ready c (x ∷ xs) room = mild-refused (made i Ready c) room Refusal.Unawaited
-mild-feed i (Selected protocol) c (x ∷ xs) room = mild-refused (made i (Selected protocol) c) room Refusal.Unawaited
-mild-feed i (Waiting p selected) c (x ∷ xs) room = mild-piece i p selected c x xs room
-mild-feed i Lost c (x ∷ xs) room = mild-refused (made i Lost c) room Refusal.Unawaited
-
-mild-next : (i : Interface) (state : State) (c : Calibration) (out : List ℕ) → Mild (made i state c) out (step (made i state c) (next out))
-mild-next i state Off out = mild-refused (made i state Off) out Refusal.Busy
-mild-next i state (On plan found) out =
-    let s = made i state (On plan found) in
-    ways (Mild s out) (isDue state found) (λ _. mild-sending s (send (idle (settingsAt plan (found .level)))) out _) (λ _. mild-refused s out Refusal.Busy)
-
+-- a mild refusal is no reply's
 pub untouched : Untouched
-untouched s (power-on i) = λ k e h. absurd (not-refused Answer.Done k refl e)
-untouched s pulse = λ k e h. absurd (not-refused Answer.Done k refl e)
-untouched s (request c out) =
-    ways (Mild s out) (busy s) (λ _. mild-refused s out Refusal.Busy)
-    (λ _. ways (Mild s out) (unready (s .state) c) (λ _. mild-refused s out Refusal.Unready)
-    (λ _. ways (Mild s out) (barred (s .state) c) (λ _. mild-refused s out Refusal.Invalid) (λ _. mild-sending s (send c) out (awaiting s c (s .calibration)))))
-untouched s (reset out) = mild-sending s Transfer.reset out _
-untouched s (poll out) = mild-sending s Transfer.poll out s
-untouched s (read n out) = mild-sending s (Transfer.read n) out s
-untouched s (calibrate plan out) =
-    ways (Mild s out) (busy s) (λ _. mild-refused s out Refusal.Busy)
-    (λ _. ways (Mild s out) (isOff (s .state)) (λ _. mild-refused s out Refusal.Unready)
-    (λ _. ways (Mild s out) (ltb 3 (plan .prescaler)) (λ _. mild-refused s out Refusal.Invalid) (λ _. mild-sending s (send (idle (settingsAt plan 0x00))) out _)))
-untouched s (next out) = mild-next (s .interface) (s .state) (s .calibration) out
-untouched s (feed piece room) = mild-feed (s .interface) (s .state) (s .calibration) piece room
-
--- ---- good requests, and the guard band
-
-neither : (a b : Bool) → (a || b) ≡ false → (a ≡ false) × (b ≡ false)
-neither true b e = absurd (true≢false e)
-neither false b e = (refl, e)
+untouched s c =
+    by-step (λ (m : Ran Outcome). (k : Refusal) → m .answer .answer ≡ Answer.Refused k → mild k ≡ true → m ≡ refuse s k (lent c)) s c
+    (λ j _ _ k e _. let same : j ≡ k = cc in ap (λ (x : Refusal). refuse s x (lent c)) same)
+    (λ _ k e m. let d = says-all s c in absurd (none-mild (replies s c) (d .other) k (d .plain) (d .firm) (sym (d .same) ∙ e) m))
 
 pub sends : Sends
-sends s c out (b, (u, (r, (l, _)))) =
-    let (fits, fields) = neither (outOfPlace c (s .state)) (not (allowed c)) r in
-    decide (allowed c) (λ a. simp (b, unready-is c (s .state) ∙ u, barred-is c (s .state) ∙ fits, a, l)) (λ a. absurd (true≢false (sym (ap not a) ∙ fields)))
+sends s c out p = passed (λ k. refuse s k out) (does s (request c out)) (checks s (request c out)) p
 
 -- the three tests, as one
 band-by : (r : ℕ) → (leb 0x08 r && leb r 0xF4 && eqb (r % 4) 0) ≡ false → (r < 0x08) ⊎ ((0xF4 < r) ⊎ (r % 4 ≡ 0 → ⊥))
@@ -374,12 +215,12 @@ band-by r e =
 pub band-refused : BandRefused
 band-refused r = (forth, back)
   where
-    forth : band r ≡ Guard.Refused NoBand → (r < 0x08) ⊎ ((0xF4 < r) ⊎ (r % 4 ≡ 0 → ⊥))
+    forth : bandNumber (band r) ≡ number 11 → (r < 0x08) ⊎ ((0xF4 < r) ⊎ (r % 4 ≡ 0 → ⊥))
     forth e =
         decide (leb 0x08 r && leb r 0xF4 && eqb (r % 4) 0)
-        (λ t. absurd (let z : Band (r - 8) (r + 8) ≡ Guard.Refused NoBand = simp t at e in let y : _≡_ {A = ℕ} 0 1 = cc in omega arith)) (band-by r)
+        (λ t. absurd (let z : unnumbered ≡ number 11 = simp t at e in let y : _≡_ {A = ℕ} 0 1 = cc in omega arith)) (band-by r)
 
-    back : (r < 0x08) ⊎ ((0xF4 < r) ⊎ (r % 4 ≡ 0 → ⊥)) → band r ≡ Guard.Refused NoBand
+    back : (r < 0x08) ⊎ ((0xF4 < r) ⊎ (r % 4 ≡ 0 → ⊥)) → bandNumber (band r) ≡ number 11
     back (inl h) = simp (lt-leb 0x08 r h)
     back (inr (inl h)) = simp (lt-leb r 0xF4 h, and-false)
     back (inr (inr h)) = simp (ne-eqb (r % 4) 0 h, and-false)

@@ -1,18 +1,27 @@
 -- A calibration that a steady chip answers ends with its eighth reply, however each reply is cut.
 -- Assumes nothing.
-use Prim.Native.Nat.{ℕ, zero, suc, _+_, _*_, _≤_, _<_, _%_}
+use Prim.Native.Nat.{ℕ, zero, suc, _+_, _≤_, _<_}
 use native.Mathlib.Omega.{arith}
 use mathlib.Core.Path.{_≡_, refl, sym, ap, subst, _∙_}
-use mathlib.Core.Bool.{Bool, true, false}
+use mathlib.Core.Bool.{Bool, true, false, not, true≢false}
 use mathlib.Core.Logic.{_⊎_, inl, inr, ⊎-elim}
 use mathlib.Core.List.{List, [], _∷_, _++_, append-nil, append-assoc, List·Memᴰ·cases-cons, List·Memᴰ·not-nil}
-use lib.ListN.{length, getD, drop}
-use borrow.Author.Tests.{le-ltb, lt-ltb}
+use lib.ListN.{length}
+use borrow.Author.Tests.{le-ltb}
 use Rattle.model.specs.declared.Interface.{Interface}
-use Rattle.model.specs.declared.Interface.the-variants.{Spi, Uart}
 use Rattle.model.specs.declared.Refusal.{Refusal}
-use Rattle.model.specs.declared.Awaited.the-variants.{Idle}
+use Rattle.model.specs.declared.Refusal.the-variants.{Short, Invalid, Unready, Busy, Malformed, Unawaited, ChipError, LowestTimeout, HighestTag, NoLevel, CalibrationError}
+use Rattle.model.specs.declared.Awaited.{Awaited}
+use Rattle.model.specs.declared.Phase.the-variants.{Begun}
 use Rattle.model.specs.declared.Progress.{Progress}
+use Rattle.model.specs.declared.Wake.{Wake}
+use Rattle.model.specs.declared.Wake.the-variants.{Timeout, Tag}
+use Rattle.model.specs.declared.End.{End}
+use Rattle.model.specs.declared.End.the-variants.{Good, Woken, Error}
+use Rattle.model.specs.declared.Step.{Step}
+use Rattle.model.specs.declared.Step.the-variants.{On as reading, Over}
+use Rattle.model.specs.declared.Verdict.{Verdict}
+use Rattle.model.specs.declared.Verdict.the-variants.{More, Ended, NoRoom}
 use Rattle.model.specs.declared.Place.{Place}
 use Rattle.model.specs.declared.Fed.{Fed}
 use Rattle.model.specs.declared.Plan.{Plan}
@@ -20,23 +29,26 @@ use Rattle.model.specs.declared.Search.{Search}
 use Rattle.model.specs.declared.Calibration.{Calibration}
 use Rattle.model.specs.declared.Calibration.the-variants.{Off, On}
 use Rattle.model.specs.declared.Turn.{Turn}
-use Rattle.model.specs.declared.State.the-variants.{Ready, Waiting}
+use Rattle.model.specs.declared.Turn.the-variants.{Goes, Names, Fails}
+use Rattle.model.specs.declared.State.{State}
+use Rattle.model.specs.declared.State.the-variants.{PowerUp, Ready, Selected, Waiting, Lost}
 use Rattle.model.specs.declared.Session.{Session}
 use Rattle.model.specs.declared.Answer.{Answer}
 use Rattle.model.specs.declared.Outcome.{Outcome}
-use Rattle.model.specs.Words.{pick, concat}
-use Rattle.model.specs.Contract.{Ran}
-use Rattle.model.specs.Frames.{idle, send, bytes}
-use Rattle.model.specs.Replies.{leastRoom, at, begun, fedPhase}
-use Rattle.model.specs.Calibration.{settingsAt, search}
-use Rattle.model.specs.Session.{made, outcome, refuse, testing, seen, takenBy, turned, Call, pulse, calibrate, next, feed, step}
-use Rattle.model.specs.History.{Event, Reached, event, turn, run, on, Exchange, exchange, fed, exchanges, Said, tag, timeout, error, Heard, unfinished, whole, malformed, heardOf, Told, told, answerBy, answersIn, commands, answers}
-use Rattle.model.specs.Promises.{After, Steady, says, Agrees, Highest}
-use Rattle.model.specs.Talk.{eventOf, Cuts, Enough, leastOutput, levelOf, tested, feeds, answered, asks, talk, last, Named, Calibrates}
-use Rattle.model.proofs.Refusing.{allowed-at}
-use Rattle.model.proofs.Idling.{not-yet, stands-on, Reads, still, good as came, fault, wrong, reads, from, Decided, stays}
-use Rattle.model.proofs.Invariant.{Inv, Asked, Settled, Turned, goes, names, fails, turns, asked-is, before-was, fed-length, fed-answers, fed-nothing, fed-kind, readFrom, long-enough}
-use Rattle.model.proofs.Theorems.{inv-of, finds, counts}
+use Rattle.words.specs.Words.{pick, concat}
+use Rattle.words.specs.Contract.{Ran}
+use Rattle.model.specs.Refusals.{Report, ended, reportOf, numberOf}
+use Rattle.model.specs.Replies.{leastRoom, formOf, reached, verdictOf, fedFrom}
+use Rattle.model.specs.Calibration.{heard}
+use Rattle.model.specs.Session.{made, isRunning, turned, outcomeBy, outcomeOf, Awaits, none, some, isSome, awaits, does, Call, pulse, calibrate, next, feed, step}
+use Rattle.model.specs.History.{Event, Reached, event, turn, run, on, Exchange, exchange, fed, exchanges, trials, commands, levelOf, Told, told, answerBy, verdictIn, answersIn, answers}
+use Rattle.model.specs.Promises.{After, Steady, says, Agrees}
+use Rattle.model.specs.Talk.{isEnding, ends, leastOutput, eventOf, Cuts, Enough, newestLevel, tested, feeds, answered, asks, talk, lastBy, last, Named, Calibrates}
+use Rattle.model.proofs.Cable.{ledTo, Stands, NowBy, Now, over-fed}
+use Rattle.model.proofs.Idling.{Idled, wakes-so}
+use Rattle.model.proofs.Invariant.{Own, before, Free, Live, SaysBy, RefusedBy, Inv, decide, own-trials, fed-answers, fed-length, given-idle, keeps}
+use Rattle.model.proofs.Theorems.{inv-of, highest}
+use Rattle.model.proofs.Lives.{goes-on, long-enough, does-it, next-sent, lives}
 
 -- ---- one call more is still after a power-on
 
@@ -47,55 +59,57 @@ run-on r (d ∷ cs) c = run-on (turn r d) cs c
 after-turn : (r : Reached) (c : Call) → After r → After (turn r c)
 after-turn r c (s, i, cs, p) = (s, i, cs ++ c ∷ [], run-on (on s i) cs c ∙ ap (λ (x : Reached). turn x c) p)
 
--- ---- a command is given out
+-- ---- what a reply does to the session
 
--- what is so with each prescaler
-each-prescaler : (P : ℕ → Type 0) → P 0 → P 1 → P 2 → P 3 → (p : ℕ) → p < 4 → P p
-each-prescaler P a b c d zero h = a
-each-prescaler P a b c d (suc zero) h = b
-each-prescaler P a b c d (suc (suc zero)) h = c
-each-prescaler P a b c d (suc (suc (suc zero))) h = d
-each-prescaler P a b c d (suc (suc (suc (suc p)))) h = absurd (omega arith)
+turned-interface : (t : Turn) (plan : Plan) (w : Wake) (s : Session) (k : ℕ) (place : Place) → turned t plan w s k place .session .interface ≡ s .interface
+turned-interface (Goes found) plan w s k place = refl
+turned-interface (Names r n) plan w s k place = refl
+turned-interface (Fails j) plan w s k place = refl
 
--- the chip's reply, whatever comes behind it
-event-heard : (plan : Plan) (level : ℕ) (x : Bool) (after : List ℕ) → heardOf (settingsAt plan level .source) (0x00 ∷ 0x01 ∷ eventOf x ∷ after) ≡ whole (says x)
-event-heard plan level true after =
-    each-prescaler (λ (p : ℕ). heardOf (0x03 + 64 * p) (0x00 ∷ 0x01 ∷ 0x02 ∷ after) ≡ whole tag) refl refl refl refl (plan .prescaler % 4) (omega arith)
-event-heard plan level false after =
-    each-prescaler (λ (p : ℕ). heardOf (0x03 + 64 * p) (0x00 ∷ 0x01 ∷ 0x01 ∷ after) ≡ whole timeout) refl refl refl refl (plan .prescaler % 4) (omega arith)
+-- where a reference is named, the session is Ready, and no calibration runs
+named-turned : (t : Turn) (plan : Plan) (w : Wake) (s : Session) (k : ℕ) (place : Place) (r n : ℕ) → turned t plan w s k place .answer ≡ Answer.Reference r n
+    → turned t plan w s k place .session ≡ made (s .interface) Ready Off
+named-turned (Goes found) plan w s k place r n e = absurd (let z : _≡_ {A = ℕ} 0 1 = cc in omega arith)
+named-turned (Names r′ n′) plan w s k place r n e = refl
+named-turned (Fails j) plan w s k place r n e = absurd (let z : _≡_ {A = ℕ} 0 1 = cc in omega arith)
 
--- the command at the level of the search is out
-abbrev issued : Interface → Plan → Search → List ℕ → Ran Outcome
-issued i plan found output =
-    let xs : List ℕ = bytes i (send (idle (settingsAt plan (found .level)))) in
-    record {
-      answer = outcome (made i (Waiting (begun (Idle (settingsAt plan (found .level) .source))) 0) (On plan found)) (Answer.Sent (length xs));
-      bytes = xs ++ drop (length xs) output;
-    }
+module _ (i : Interface) (state : State) (plan : Plan) (found : Search) (a : Awaited) (selected : ℕ) where
+  abbrev running : Session
+  running = made i state (On plan found)
 
--- from Ready, where the output is long enough
-issues : (i : Interface) (c : Calibration) (plan : Plan) (found : Search) (output : List ℕ) → leastOutput ≤ length output
-    → testing (made i Ready c) plan found output ≡ issued i plan found output
-issues Spi c plan found output h = simp (allowed-at plan (found .level), le-ltb (length output) 17 h)
-issues Uart c plan found output h = simp (allowed-at plan (found .level), le-ltb (length output) 16 (omega arith))
+  taken-interface : (v : Verdict) (r : Fed) → outcomeBy v r running a selected .session .interface ≡ i
+  taken-interface More r = refl
+  taken-interface (Ended Good) r = refl
+  taken-interface (Ended (Woken w)) r = turned-interface (heard found w) plan w running (r .used) (r .place)
+  taken-interface (Ended (Error code)) r = refl
+  taken-interface (Ended (End.Malformed at b)) r = refl
+  taken-interface NoRoom r = refl
 
-first-issued : (i : Interface) (plan : Plan) (output : List ℕ) → plan .prescaler ≤ 3 → leastOutput ≤ length output
-    → step (made i Ready Off) (calibrate plan output) ≡ issued i plan (search 1 0x00) output
-first-issued i plan output p h =
-    ap (λ (b : Bool). pick b (refuse (made i Ready Off) Refusal.Invalid output) (testing (made i Ready Off) plan (search 1 0x00) output)) (le-ltb 3 (plan .prescaler) p)
-    ∙ issues i Off plan (search 1 0x00) output h
+  named-ready : (v : Verdict) (r : Fed) (m n : ℕ) → outcomeBy v r running a selected .answer ≡ Answer.Reference m n → outcomeBy v r running a selected .session ≡ made i Ready Off
+  named-ready More r m n e = absurd (let z : _≡_ {A = ℕ} 0 1 = cc in omega arith)
+  named-ready (Ended Good) r m n e = absurd (let z : _≡_ {A = ℕ} 0 1 = cc in omega arith)
+  named-ready (Ended (Woken w)) r m n e = named-turned (heard found w) plan w running (r .used) (r .place) m n e
+  named-ready (Ended (Error code)) r m n e = absurd (let z : _≡_ {A = ℕ} 0 1 = cc in omega arith)
+  named-ready (Ended (End.Malformed at b)) r m n e = absurd (let z : _≡_ {A = ℕ} 0 1 = cc in omega arith)
+  named-ready NoRoom r m n e = absurd (let z : _≡_ {A = ℕ} 0 1 = cc in omega arith)
 
-next-issued : (i : Interface) (plan : Plan) (found : Search) (output : List ℕ) → found .commands < 8 → leastOutput ≤ length output
-    → step (made i Ready (On plan found)) (next output) ≡ issued i plan (search (found .commands + 1) (found .level)) output
-next-issued i plan found output few h =
-    let s = made i Ready (On plan found) in
-    let found′ = search (found .commands + 1) (found .level) in
-    ap (λ (b : Bool). pick b (testing s plan found′ output) (refuse s Refusal.Busy output)) (lt-ltb (found .commands) 8 few)
-    ∙ issues i (On plan found) plan found′ output h
+-- a refusal that ends a calibration is 5, or it reports the commands
+ending : (k : Refusal) → isEnding (numberOf k) ≡ true → (k ≡ Malformed) ⊎ ((n : ℕ) × (reportOf k ≡ ended n))
+ending Short e = absurd (true≢false (sym e))
+ending Invalid e = absurd (true≢false (sym e))
+ending Unready e = absurd (true≢false (sym e))
+ending Busy e = absurd (true≢false (sym e))
+ending Malformed e = inl refl
+ending Unawaited e = absurd (true≢false (sym e))
+ending (ChipError code) e = absurd (true≢false (sym e))
+ending (LowestTimeout n) e = inr (n, refl)
+ending (HighestTag n) e = inr (n, refl)
+ending (NoLevel n) e = inr (n, refl)
+ending (CalibrationError code n) e = inr (n, refl)
 
--- ---- a steady chip's replies
+-- ---- a steady chip
 
-module _ (f : ℕ → Bool) (st : Steady f) (rooms : List Event → List ℕ) (big : Enough leastRoom rooms) where
+module _ (f : ℕ → Bool) (st : Steady f) where
   -- what was answered is still the chip's
   agrees-more : (l : ℕ) (ts : List Told) → Agrees f ts → Agrees f (told l (says (f l)) ∷ ts)
   agrees-more l ts ag k x m =
@@ -104,226 +118,287 @@ module _ (f : ℕ → Bool) (st : Steady f) (rooms : List Event → List ℕ) (b
       (λ m′. ag k x m′)
       (List·Memᴰ·cases-cons m)
 
-  -- the bytes fed since the newest command, and those to come, are the chip's reply
-  abbrev Coming : List Exchange → List ℕ → Type 0
-  Coming [] ys = ⊥
-  Coming (x ∷ es) ys = heardOf (x .source) (x .bytes ++ ys) ≡ whole (says (f (x .level)))
+  -- the call that ends it names the highest level with a tag
+  pub record Told-so (h : List Event) (e : Event) : Type 0 where
+    pub reference : ℕ
+    pub count : ℕ
+    pub answer : e .answer ≡ Answer.Reference reference count
+    pub named : Named f (e ∷ h)
 
-  -- a piece joins the bytes of the newest command, whatever it is answered
-  joins : (h : List Event) (o : Ran Outcome) (xs : List ℕ) → exchanges (event (feed xs (rooms h)) (o .answer) (o .bytes) ∷ h) ≡ fed xs (exchanges h)
-  joins h o xs = fed-kind xs (rooms h) (exchanges h) (le-ltb (length (rooms h)) leastRoom (big h))
+  named-by : (h : List Event) (e : Event) → SaysBy true (e .answer) (commands (e ∷ h)) (answers (e ∷ h)) (answers h) → Agrees f (answers (e ∷ h))
+      → ends (e .answer) ≡ true → (e .answer ≡ Answer.Refused Malformed → ⊥) → Told-so h e
+  named-by h e said ag stop well = go (e .answer) refl said stop
+    where
+      go : (a : Answer) → e .answer ≡ a → SaysBy true a (commands (e ∷ h)) (answers (e ∷ h)) (answers h) → ends a ≡ true → Told-so h e
+      go Answer.Done q x t = absurd (true≢false (sym t))
+      go (Answer.Sent n) q x t = absurd (true≢false (sym t))
+      go Answer.More q x t = absurd (true≢false (sym t))
+      go Answer.Good q x t = absurd (true≢false (sym t))
+      go (Answer.Woken w) q x t = absurd (true≢false (sym t))
+      go (Answer.Reference r n) q (_, one, res) t =
+          record {
+            reference = r;
+            count = n;
+            answer = q;
+            named =
+                record {
+                  reference = r;
+                  told-so = ap (λ (a : Answer). lastBy a (last h)) q ∙ ap (Answer.Reference r) (res .eight);
+                  highest = highest f st r n _ _ res ag;
+                  eight-commands = sym (res .counted .0) ∙ res .eight;
+                  eight-answers = sym (res .counted .1) ∙ res .eight;
+                };
+          }
+      go (Answer.Refused k) q x t =
+          ⊎-elim (λ m. absurd (well (q ∙ ap Answer.Refused m)))
+          (λ (n, m). absurd (subst (λ (y : Report). RefusedBy true y (commands (e ∷ h)) (answers (e ∷ h)) (answers h)) m x .3 f st ag)) (ending k t)
 
-  -- ---- after the reply to the c-th command
+  module _ (i : Interface) (rooms : List Event → List ℕ) (big : Enough leastRoom rooms) where
+    -- it runs, or it named that level
+    pub record Fine (r : Reached) : Type 0 where
+      pub after : After r
+      pub interface : r .session .interface ≡ i
+      pub sound : (isRunning (r .session .calibration) ≡ true) ⊎ ((r .session ≡ made i Ready Off) × Named f (r .history))
 
-  -- the reference was named, by the eighth, or the next command is due
-  abbrev Rests : Calibration → ℕ → List Event → Type 0
-  Rests Off c h = Named f h × (c ≡ 8)
-  Rests (On plan found) c h = found .commands ≡ c
+    -- the newest command is the calibration's, the n answers before it were the chip's, and its bytes, with those that come, are the chip's reply
+    pub record Coming (n : ℕ) (es : List Exchange) (rest : List ℕ) : Type 0 where
+      pub newest : Exchange
+      pub older : List Exchange
+      pub same : es ≡ newest ∷ older
+      pub own : Own (newest .owner)
+      pub agrees : Agrees f (answersIn (before (newest .owner) older))
+      pub many : length (answersIn (before (newest .owner) older)) ≡ n
+      pub reply : reached (formOf (newest .awaited)) (reading Begun) (newest .bytes ++ rest) ≡ Over (says (f (levelOf (newest .owner))))
 
-  record Came (i : Interface) (c : ℕ) (r : Reached) : Type 0 where
-    calibration : Calibration
-    session : r .session ≡ made i Ready calibration
-    after : After r
-    agrees : Agrees f (answers (r .history))
-    rests : Rests calibration c (r .history)
+    is-answer : (b : Bool) → Rattle.model.specs.History.isAnswer (says b) ≡ true
+    is-answer true = refl
+    is-answer false = refl
 
-  abbrev ready : Interface → Calibration → List Event → Reached
-  ready i c h = record { session = made i Ready c; history = h }
+    -- of all the bytes, or of some at their beginning, the answers are the chip's
+    module _ (n : ℕ) (es : List Exchange) (rest : List ℕ) (c : Coming n es rest) where
+      abbrev x : Exchange
+      x = c .newest
 
-  settled-of : (i : Interface) (c : Calibration) (h : List Event) → Inv (made i Ready c) h → Settled (exchanges h)
-  settled-of i Off h v = v .live
-  settled-of i (On plan found) h v = v .live .0
+      abbrev l : ℕ
+      l = levelOf (x .owner)
 
-  rests-same : (x : Calibration) (c : ℕ) (h h′ : List Event) → answers h′ ≡ answers h → commands h′ ≡ commands h → last h′ ≡ last h → Rests x c h → Rests x c h′
-  rests-same Off c h h′ a n l (m, e) = (
-    record {
-      reference = m .reference;
-      told-so = l ∙ m .told-so;
-      highest = m .highest;
-      eight-commands = n ∙ m .eight-commands;
-      eight-answers = ap length a ∙ m .eight-answers;
-    },
-    e,
-  )
-  rests-same (On plan found) c h h′ a n l m = m
+      abbrev old : List Told
+      old = answersIn (before (x .owner) (c .older))
 
-  ignored : (i : Interface) (x : Calibration) (c : ℕ) (h : List Event) (xs : List ℕ) → After (ready i x h) → Agrees f (answers h) → Rests x c h
-      → (turn (ready i x h) (feed xs (rooms h)) .session ≡ made i Ready x) → (last (turn (ready i x h) (feed xs (rooms h)) .history) ≡ last h)
-      → Came i c (turn (ready i x h) (feed xs (rooms h)))
-  ignored i x c h xs a ag m s l =
-      let e = joins h (step (made i Ready x) (feed xs (rooms h))) xs in
-      let d = settled-of i x h (inv-of (ready i x h) a) in
-      let same : answers (turn (ready i x h) (feed xs (rooms h)) .history) ≡ answers h = ap answersIn e ∙ fed-answers xs (exchanges h) d in
-      record {
-        calibration = x;
-        session = s;
-        after = after-turn (ready i x h) (feed xs (rooms h)) a;
-        agrees = subst (Agrees f) (sym same) ag;
-        rests = rests-same x c h (turn (ready i x h) (feed xs (rooms h)) .history) same (ap length e ∙ fed-length xs (exchanges h)) l m;
-      }
+      -- an end that was reached is the reply's
+      end-is : (e : End) → ledTo x ≡ Over e → e ≡ says (f l)
+      end-is e q = let z : Over e ≡ Over (says (f l)) = sym (over-fed x e rest q) ∙ c .reply in cc
 
-  -- a piece where nothing is awaited
-  unawaited : (i : Interface) (x : Calibration) (c : ℕ) (h : List Event) (xs : List ℕ) → After (ready i x h) → Agrees f (answers h) → Rests x c h
-      → Came i c (turn (ready i x h) (feed xs (rooms h)))
-  unawaited i x c h [] a ag m = ignored i x c h [] a ag m refl refl
-  unawaited i x c h (y ∷ ys) a ag m = ignored i x c h (y ∷ ys) a ag m refl refl
+      answers-as : (v : Verdict) → verdictIn x ≡ v → answersIn (trials es) ≡ answerBy v l old
+      answers-as v e = ap (λ (zs : List Exchange). answersIn (trials zs)) (c .same) ∙ ap answersIn (own-trials (x .owner) x (c .older) (c .own)) ∙ ap (λ (w : Verdict). answerBy w l old) e
 
-  rest-of : (pieces : List (List ℕ)) (i : Interface) (c : ℕ) (r : Reached) → Came i c r → Came i c (feeds rooms r pieces)
-  rest-of [] i c r m = m
-  rest-of (xs ∷ pieces) i c r m =
-      rest-of pieces i c (turn r (feed xs (rooms (r .history))))
-      (subst (λ (s : Session). Came i c (turn (record { session = s; history = r .history }) (feed xs (rooms (r .history))))) (sym (m .session))
-      (unawaited i (m .calibration) c (r .history) xs (subst (λ (s : Session). After (record { session = s; history = r .history })) (m .session) (m .after)) (m .agrees) (m .rests)))
+      answered-as : (e : End) → ledTo x ≡ Over e → answersIn (trials es) ≡ told l (says (f l)) ∷ old
+      answered-as e q =
+          answers-as (Ended (says (f l))) (ap verdictOf q ∙ ap Ended (end-is e q)) ∙ ap (λ (b : Bool). pick b (told l (says (f l)) ∷ old) old) (is-answer (f l))
 
-  -- ---- a reply, under any cutting
+      agrees-so : Agrees f (answersIn (trials es))
+      agrees-so = go (ledTo x) refl
+        where
+          go : (t : Step) → ledTo x ≡ t → Agrees f (answersIn (trials es))
+          go (reading q) e = subst (Agrees f) (sym (answers-as More (ap verdictOf e))) (c .agrees)
+          go (Over e) q = subst (Agrees f) (sym (answered-as e q)) (agrees-more l old (c .agrees))
 
-  -- a call with which the reply ended, and led the search by a turn
-  module _ (i : Interface) (plan : Plan) (found : Search) (k : ℕ) (place : Place) (c : Call) (bs : List ℕ) (h : List Event) where
-    abbrev newest : Turn → Event
-    newest t = event c (turned t plan i Ready k place) bs
+    -- a piece joins the bytes of the newest command, whatever it is answered
+    joins : (h : List Event) (o : Ran Outcome) (xs : List ℕ) → exchanges (event (feed xs (rooms h)) (o .answer) (o .bytes) ∷ h) ≡ fed xs (o .answer .used) (exchanges h)
+    joins h o xs = ap (λ (b : Bool). fed (pick b [] xs) (o .answer .used) (exchanges h)) (le-ltb (length (rooms h)) leastRoom (big h))
 
-    abbrev led : Turn → Reached
-    led t = record { session = turned t plan i Ready k place .session; history = newest t ∷ h }
-
-    -- by what holds of such a call, the search goes on, or it names the reference
-    by-turn : (t : Turn) → Turned found t → After (led t) → Agrees f (answers (newest t ∷ h)) → commands (newest t ∷ h) ≡ found .commands
-        → ((commands (newest t ∷ h) < 8) × (newest t .answer ≡ Answer.Good))
-        ⊎ ((commands (newest t ∷ h) ≡ 8) × ((reference : ℕ) × (newest t .answer ≡ Answer.Reference reference 8) × Highest f reference))
-        → Came i (found .commands) (led t)
-    by-turn t (goes l) a ag sent w =
+    comes-on : (n : ℕ) (es : List Exchange) (xs rest : List ℕ) (k : ℕ) → Coming n es (xs ++ rest) → Coming n (fed xs k es) rest
+    comes-on n es xs rest k c =
+        let x = c .newest in
         record {
-          calibration = On plan (search (found .commands) l);
-          session = refl;
-          after = a;
-          agrees = ag;
-          rests = refl;
+          newest = exchange (x .owner) (x .awaited) (x .bytes ++ xs) (x .used + k);
+          older = c .older;
+          same = ap (fed xs k) (c .same);
+          own = c .own;
+          agrees = c .agrees;
+          many = c .many;
+          reply = ap (reached (formOf (x .awaited)) (reading Begun)) (append-assoc (x .bytes) xs rest) ∙ c .reply;
         }
-    by-turn t (names r n) a ag sent (inl (few, e)) = absurd (let z : _≡_ {A = ℕ} 0 1 = cc in omega arith)
-    by-turn t (names r n) a ag sent (inr (all, (reference, e, high))) =
-        let eight : n ≡ 8 = cc in
-        record {
-          calibration = Off;
-          session = refl;
-          after = a;
-          agrees = ag;
-          rests = (
+
+    -- ---- a piece
+
+    abbrev at : Session → List Event → Reached
+    at s h = record { session = s; history = h }
+
+    -- nothing is awaited, and the session stays
+    still : (c : Calibration) (h : List Event) (xs : List ℕ) → Fine (at (made i Ready c) h) → NowBy none (exchanges h) → Fine (turn (at (made i Ready c) h) (feed xs (rooms h)))
+    still c h xs v n = go xs
+      where
+        kept : (xs : List ℕ) (o : Ran Outcome) → step (made i Ready c) (feed xs (rooms h)) ≡ o → o .answer .session ≡ made i Ready c → ends (o .answer .answer) ≡ false
+            → ((a : Answer) → lastBy (o .answer .answer) a ≡ a) → Fine (turn (at (made i Ready c) h) (feed xs (rooms h)))
+        kept xs o e s quiet l =
+            let r = at (made i Ready c) h in
+            let r′ = turn r (feed xs (rooms h)) in
+            let s′ : r′ .session ≡ made i Ready c = ap (λ (m : Ran Outcome). m .answer .session) e ∙ s in
+            let es = joins h (step (made i Ready c) (feed xs (rooms h))) xs in
+            let k = step (made i Ready c) (feed xs (rooms h)) .answer .used in
             record {
-              reference = reference;
-              told-so = e;
-              highest = high;
-              eight-commands = all;
-              eight-answers = sym (counts (newest t) h (led t, a, refl) n refl .1) ∙ eight;
-            },
-            sym sent ∙ all,
-          );
-        }
-    by-turn t (fails x) a ag sent (inl (few, e)) = absurd (let z : _≡_ {A = ℕ} 0 1 = cc in omega arith)
-    by-turn t (fails x) a ag sent (inr (all, (reference, e, high))) = absurd (let z : _≡_ {A = ℕ} 0 1 = cc in omega arith)
+              after = after-turn r (feed xs (rooms h)) (v .after);
+              interface = ap (λ (z : Session). z .interface) s′;
+              sound =
+                  ⊎-elim (λ on. inl (ap (λ (z : Session). isRunning (z .calibration)) s′ ∙ on))
+                  (λ (q, m). inr (
+                    s′ ∙ q,
+                    record {
+                      reference = m .reference;
+                      told-so = ap (λ (z : Answer). lastBy z (last h)) (ap (λ (y : Ran Outcome). y .answer .answer) e) ∙ l (last h) ∙ m .told-so;
+                      highest = m .highest;
+                      eight-commands = ap (λ (zs : List Exchange). length (trials zs)) es ∙ fed-length xs k (exchanges h) ∙ m .eight-commands;
+                      eight-answers = ap (λ (zs : List Exchange). length (answersIn (trials zs))) es ∙ ap length (fed-answers xs k (exchanges h) n) ∙ m .eight-answers;
+                    },
+                  ))
+                  (v .sound);
+            }
 
-    replied : (t : Turn) → Turned found t → After (led t) → Agrees f (answers h) → commands (newest t ∷ h) ≡ found .commands
-        → answers (newest t ∷ h) ≡ told (found .level) (says (f (found .level))) ∷ answers h → Came i (found .commands) (led t)
-    replied t x a ag sent new =
-        let ag′ : Agrees f (answers (newest t ∷ h)) = subst (Agrees f) (sym new) (agrees-more (found .level) (answers h) ag) in
-        by-turn t x a ag′ sent (finds f st (newest t) h (led t, a, refl) (told (found .level) (says (f (found .level)))) new ag′)
+        go : (xs : List ℕ) → Fine (turn (at (made i Ready c) h) (feed xs (rooms h)))
+        go [] = kept [] _ refl refl refl (λ a. refl)
+        go (y ∷ ys) = kept (y ∷ ys) _ refl refl refl (λ a. refl)
 
-  module _ (i : Interface) (selected : ℕ) (plan : Plan) (found : Search) where
-    abbrev waits : Progress → List Event → Reached
-    waits p h = record { session = made i (Waiting p selected) (On plan found); history = h }
-
-    -- what is shown of the pieces that follow, from any progress
-    abbrev Onward : List (List ℕ) → Type 0
-    Onward pieces =
-        (p : Progress) (h : List Event) → After (waits p h) → Agrees f (answers h) → Coming (exchanges h) (concat pieces)
-        → Came i (found .commands) (feeds rooms (waits p h) pieces)
-
-    -- a piece that is not empty
-    module _ (p : Progress) (h : List Event) (ask : Asked found p (exchanges h)) (y : ℕ) (ys : List ℕ) (pieces : List (List ℕ)) (onward : Onward pieces)
-        (ag : Agrees f (answers h)) (coming : Coming (exchanges h) ((y ∷ ys) ++ concat pieces)) where
+    -- a reply is awaited
+    module _ (p : Progress) (selected : ℕ) (plan : Plan) (found : Search) (h : List Event) (a : After (at (made i (Waiting p selected) (On plan found)) h)) (y : ℕ) (ys rest : List ℕ) (n : ℕ)
+        (coming : Coming n (exchanges h) ((y ∷ ys) ++ rest)) where
       abbrev xs : List ℕ
       xs = y ∷ ys
 
-      abbrev now : List Exchange
-      now = exchange (ask .source) (found .level) (ask .bytes ++ xs) ∷ ask .old
+      abbrev s : Session
+      s = made i (Waiting p selected) (On plan found)
 
-      abbrev by : Ran Fed → Ran Outcome
-      by m =
+      abbrev after-it : Reached
+      after-it = turn (at s h) (feed xs (rooms h))
+
+      v : Inv s h
+      v = inv-of (at s h) a
+
+      after-inv : Inv (after-it .session) (after-it .history)
+      after-inv = inv-of after-it (after-turn (at s h) (feed xs (rooms h)) a)
+
+      read : step s (feed xs (rooms h)) ≡ outcomeOf s p selected xs (rooms h)
+      read = does-it s (feed xs (rooms h)) (refl, (le-ltb (length (rooms h)) leastRoom (big h), tt))
+
+      now-coming : Coming n (exchanges (after-it .history)) rest
+      now-coming = subst (λ (es : List Exchange). Coming n es rest) (sym (joins h (step s (feed xs (rooms h))) xs)) (comes-on n (exchanges h) xs rest (step s (feed xs (rooms h)) .answer .used) coming)
+
+      -- while the reply is awaited there is no answer
+      none-yet : answers h ≡ old n (exchanges h) (xs ++ rest) coming
+      none-yet = answers-as n (exchanges h) (xs ++ rest) coming More (ap verdictOf (subst (NowBy (some p selected)) (coming .same) (v .now) .stands .1))
+
+      -- refusal 5 would leave no answer behind a reply that has one
+      not-malformed : step s (feed xs (rooms h)) .answer .answer ≡ Answer.Refused Malformed → ⊥
+      not-malformed q =
+          let o = step s (feed xs (rooms h)) in
+          let off : isRunning (after-it .session .calibration) ≡ false = goes-on s refl (feed xs (rooms h)) ∙ ap (λ (z : Answer). not (ends z)) q in
+          let none-more : length (answers (after-it .history)) ≤ length (answers h) =
+          subst (λ (z : Answer). SaysBy true z (commands (after-it .history)) (answers (after-it .history)) (answers h)) q (keeps s h v (feed xs (rooms h)) .says) in
+          by-state (after-it .session .calibration) (awaits (after-it .session .state)) off none-more (after-inv .now) (free-of (after-it .session .calibration) (after-it .session .state) off (after-inv .live))
+        where
+          free-of : (c : Calibration) (state : State) → isRunning c ≡ false → Live c state (exchanges (after-it .history)) → Free (awaits state) (exchanges (after-it .history))
+          free-of Off state e live = live
+          free-of (On plan′ found′) state e live = absurd (true≢false e)
+
+          by-state : (c : Calibration) (w : Awaits) → isRunning c ≡ false → length (answers (after-it .history)) ≤ length (answers h)
+              → NowBy w (exchanges (after-it .history)) → Free w (exchanges (after-it .history)) → ⊥
+          by-state c none e few m free =
+              let stood = subst (NowBy none) (now-coming .same) m .stands in
+              let came = answered-as n (exchanges (after-it .history)) rest now-coming (stood .0) (stood .1) in
+              omega (arith, few, ap length came, ap length none-yet, now-coming .many, coming .many)
+          by-state c (some q sel) e few m free = subst Own (subst (Free (some q sel)) (now-coming .same) free) (now-coming .own)
+
+      piece-read : Fine after-it
+      piece-read =
+          decide (ends (step s (feed xs (rooms h)) .answer .answer))
+          (λ stop.
+          let e : Event = event (feed xs (rooms h)) (step s (feed xs (rooms h)) .answer) (step s (feed xs (rooms h)) .bytes) in
+          let m = named-by h e (keeps s h v (feed xs (rooms h)) .says) (agrees-so n (exchanges (e ∷ h)) rest now-coming) stop not-malformed in
+          let r : Fed = fedFrom (p .awaited) (p .phase) xs (rooms h) .answer in
           record {
-            answer = takenBy (m .answer .verdict) (m .answer) (made i (Waiting p selected) (On plan found)) (Idle (ask .source)) selected xs;
-            bytes = m .bytes;
-          }
-
-      abbrev reached : Ran Outcome → Reached
-      reached o = record { session = o .answer .session; history = event (feed xs (rooms h)) (o .answer) (o .bytes) ∷ h }
-
-      joined : (o : Ran Outcome) → exchanges (reached o .history) ≡ now
-      joined o = joins h o xs ∙ ap (fed xs) (ask .newest)
-
-      -- all the bytes, those behind the piece too
-      all : heardOf (ask .source) ((ask .bytes ++ xs) ++ concat pieces) ≡ whole (says (f (found .level)))
-      all =
-          ap (heardOf (ask .source)) (append-assoc (ask .bytes) xs (concat pieces))
-          ∙ subst (λ (es : List Exchange). Coming es (xs ++ concat pieces)) (ask .newest) coming
-
-      -- the answers, by what the bytes with the piece come to
-      told-by : (o : Ran Outcome) (v : Heard) → heardOf (ask .source) (ask .bytes ++ xs) ≡ v
-          → answers (reached o .history) ≡ answerBy v (found .level) (answers h)
-      told-by o v e =
-          ap answersIn (joined o)
-          ∙ ap (λ (w : Heard). answerBy w (found .level) (answersIn (ask .old))) e
-          ∙ ap (answerBy v (found .level)) (sym (before-was found p h ask))
-
-      -- a reply that is over in the piece is the chip's
-      over-is : (v : Heard) → heardOf (ask .source) (ask .bytes ++ xs) ≡ v → Decided (ask .source) v → v ≡ whole (says (f (found .level)))
-      over-is v e d = sym e ∙ sym (stays (ask .source) (ask .bytes ++ xs) (concat pieces) (subst (Decided (ask .source)) (sym e) d)) ∙ all
-
-      by-reading : (m : Ran Fed) → Reads (ask .source) (from (ask .source) (ask .phase)) xs xs (rooms h) m → After (reached (by m))
-          → Came i (found .commands) (feeds rooms (reached (by m)) pieces)
-      by-reading m (still q k simple e) a =
-          let st′ = stands-on (ask .source) (ask .phase) q (ask .bytes) xs (ask .stands) e in
-          onward (at (Idle (ask .source)) q) (reached (by m) .history) a
-          (subst (Agrees f) (sym (told-by (by m) unfinished (not-yet (ask .source) q (ask .bytes ++ xs) st′))) ag)
-          (subst (λ (es : List Exchange). Coming es (concat pieces)) (sym (joined (by m))) all)
-      by-reading m (came j k e) a =
-          let v = ask .stands xs ∙ e in
-          let v′ : heardOf (ask .source) (ask .bytes ++ xs) ≡ whole (says (f (found .level))) = v ∙ over-is _ v tt in
-          rest-of pieces i (found .commands) (reached (by m))
-          (replied i plan found k _ (feed xs (rooms h)) (rooms h) h _ (turns found (seen (getD xs j 0))) a ag
-          (ap length (joined (by m)) ∙ ask .sent) (told-by (by m) (whole (says (f (found .level)))) v′))
-      by-reading m (fault code k e) a = absurd (no-error code (f (found .level)) (over-is (whole (error code)) (ask .stands xs ∙ e) tt))
+            after = after-turn (at s h) (feed xs (rooms h)) a;
+            interface = same-interface;
+            sound =
+                inr (
+                  ap (λ (z : Ran Outcome). z .answer .session) read
+                      ∙ named-ready i (Waiting p selected) plan found (p .awaited) selected (r .verdict) r (m .reference) (m .count) (sym (ap (λ (z : Ran Outcome). z .answer .answer) read) ∙ m .answer),
+                  m .named,
+                );
+          })
+          (λ goes.
+          record {
+            after = after-turn (at s h) (feed xs (rooms h)) a;
+            interface = same-interface;
+            sound = inl (goes-on s refl (feed xs (rooms h)) ∙ ap not goes);
+          })
         where
-          no-error : (c : ℕ) (b : Bool) → whole (error c) ≡ whole (says b) → ⊥
-          no-error c true q = let z : _≡_ {A = ℕ} 0 1 = cc in omega arith
-          no-error c false q = let z : _≡_ {A = ℕ} 0 1 = cc in omega arith
-      by-reading m (wrong k e) a = absurd (no-wrong (says (f (found .level))) (over-is malformed (ask .stands xs ∙ e) tt))
-        where
-          no-wrong : (x : Said) → malformed ≡ whole x → ⊥
-          no-wrong x q = let z : _≡_ {A = ℕ} 0 1 = cc in omega arith
+          same-interface : after-it .session .interface ≡ i
+          same-interface =
+              let r : Fed = fedFrom (p .awaited) (p .phase) xs (rooms h) .answer in
+              ap (λ (z : Ran Outcome). z .answer .session .interface) read ∙ taken-interface i (Waiting p selected) plan found (p .awaited) selected (r .verdict) r
 
-      piece-read : After (turn (waits p h) (feed xs (rooms h))) → Came i (found .commands) (feeds rooms (turn (waits p h) (feed xs (rooms h))) pieces)
-      piece-read a =
-          let s = made i (Waiting p selected) (On plan found) in
-          let q : step s (feed xs (rooms h)) ≡ by (fedPhase (ask .phase) (Idle (ask .source)) xs (rooms h)) =
-          long-enough s p selected y ys (rooms h) (le-ltb (length (rooms h)) leastRoom (big h)) ∙ ap (readFrom s selected y ys (rooms h)) (ask .progress) in
-          subst (λ (o : Ran Outcome). Came i (found .commands) (feeds rooms (reached o) pieces)) (sym q)
-          (by-reading _ (reads (ask .source) (ask .phase) (ask .simple) y ys (rooms h)) (subst (λ (o : Ran Outcome). After (reached o)) q a))
+    -- ---- any piece, and all pieces
 
-    no-more : (x : Said) → unfinished ≡ whole x → ⊥
-    no-more x q = let z : _≡_ {A = ℕ} 0 1 = cc in omega arith
+    one-piece : (n : ℕ) (r : Reached) (xs rest : List ℕ) → Fine r → Coming n (exchanges (r .history)) (xs ++ rest) → Fine (turn r (feed xs (rooms (r .history))))
+    one-piece n r xs rest v c =
+        subst (λ (z : Session). Fine (turn (at z (r .history)) (feed xs (rooms (r .history))))) {x = made i (r .session .state) (r .session .calibration)} {y = r .session}
+        (ap (λ (j : Interface). made j (r .session .state) (r .session .calibration)) (sym (v .interface)))
+        (go (r .session .calibration) (r .session .state) xs c v′)
+      where
+        h : List Event
+        h = r .history
 
-    fed-all : (pieces : List (List ℕ)) → Onward pieces
-    fed-all [] p h a ag coming =
-        let ask : Asked found p (exchanges h) = inv-of (waits p h) a .live in
-        absurd (no-more (says (f (found .level)))
-        (sym (not-yet (ask .source) (ask .phase) (ask .bytes) (ask .stands))
-        ∙ ap (heardOf (ask .source)) (sym (append-nil (ask .bytes)))
-        ∙ subst (λ (es : List Exchange). Coming es []) (ask .newest) coming))
-    fed-all ([] ∷ pieces) p h a ag coming =
-        let e : exchanges (turn (waits p h) (feed [] (rooms h)) .history) ≡ exchanges h = joins h (step (waits p h .session) (feed [] (rooms h))) [] ∙ fed-nothing (exchanges h) in
-        fed-all pieces p (turn (waits p h) (feed [] (rooms h)) .history) (after-turn (waits p h) (feed [] (rooms h)) a)
-        (subst (Agrees f) (sym (ap answersIn e)) ag) (subst (λ (es : List Exchange). Coming es (concat pieces)) (sym e) coming)
-    fed-all ((y ∷ ys) ∷ pieces) p h a ag coming =
-        piece-read p h (inv-of (waits p h) a .live) y ys pieces (λ q h′ a′ ag′ coming′. fed-all pieces q h′ a′ ag′ coming′) ag coming
-        (after-turn (waits p h) (feed (y ∷ ys) (rooms h)) a)
+        v′ : Fine (at (made i (r .session .state) (r .session .calibration)) h)
+        v′ = subst (λ (j : Interface). Fine (at (made j (r .session .state) (r .session .calibration)) h)) (v .interface) v
+
+        ready-only : (c : Calibration) (state : State) → ((isRunning c ≡ true) ⊎ ((made i state c ≡ made i Ready Off) × Named f h)) → isRunning c ≡ false → state ≡ Ready
+        ready-only c state (inl on) off = absurd (true≢false (sym on ∙ off))
+        ready-only c state (inr (q, _)) off = ap (λ (z : Session). z .state) q
+
+        go : (c : Calibration) (state : State) (xs : List ℕ) → Coming n (exchanges h) (xs ++ rest) → Fine (at (made i state c) h) → Fine (turn (at (made i state c) h) (feed xs (rooms h)))
+        go Off state xs coming w =
+            let q : state ≡ Ready = ready-only Off state (w .sound) refl in
+            subst (λ (z : State). Fine (at (made i z Off) h) → Fine (turn (at (made i z Off) h) (feed xs (rooms h)))) (sym q) (λ u. still Off h xs u (inv-of (at (made i Ready Off) h) (u .after) .now)) w
+        go (On plan found) state xs coming w = by state xs coming w (inv-of (at (made i state (On plan found)) h) (w .after))
+          where
+            by : (state : State) (xs : List ℕ) → Coming n (exchanges h) (xs ++ rest) → Fine (at (made i state (On plan found)) h) → Inv (made i state (On plan found)) h
+                → Fine (turn (at (made i state (On plan found)) h) (feed xs (rooms h)))
+            by PowerUp xs coming w u = absurd (u .live)
+            by Ready xs coming w u = still (On plan found) h xs w (u .now)
+            by (Selected protocol) xs coming w u = absurd (u .live)
+            by (Waiting p selected) [] coming w u =
+                record { after = after-turn (at (made i (Waiting p selected) (On plan found)) h) (feed [] (rooms h)) (w .after); interface = refl; sound = inl refl }
+            by (Waiting p selected) (y ∷ ys) coming w u = piece-read p selected plan found h (w .after) y ys rest n coming
+            by Lost xs coming w u = absurd (u .live)
+
+    -- the whole reply was fed: one answer more, and nothing is awaited
+    pub record Replied (n : ℕ) (r : Reached) : Type 0 where
+      pub fine : Fine r
+      pub resting : awaits (r .session .state) ≡ none
+      pub agrees : Agrees f (answers (r .history))
+      pub many : length (answers (r .history)) ≡ suc n
+
+    rests : (w : Awaits) (x : Exchange) (e : End) → Stands w x → ledTo x ≡ Over e → w ≡ none
+    rests none x e v q = refl
+    rests (some p selected) x e v q = absurd (let z : Over e ≡ reading (p .phase) = sym q ∙ v .stands .1 in let y : _≡_ {A = ℕ} 0 1 = cc in omega arith)
+
+    whole : (n : ℕ) (r : Reached) → Fine r → Coming n (exchanges (r .history)) [] → Replied n r
+    whole n r v c =
+        let x = c .newest in
+        let led : ledTo x ≡ Over (says (f (levelOf (x .owner)))) = ap (reached (formOf (x .awaited)) (reading Begun)) (sym (append-nil (x .bytes))) ∙ c .reply in
+        record {
+          fine = v;
+          resting = rests (awaits (r .session .state)) x _ (subst (Now (r .session .state)) (c .same) (inv-of r (v .after) .now)) led;
+          agrees = agrees-so n (exchanges (r .history)) [] c;
+          many = ap length (answered-as n (exchanges (r .history)) [] c _ led) ∙ ap suc (c .many);
+        }
+
+    all-pieces : (n : ℕ) (pieces : List (List ℕ)) (r : Reached) → Fine r → Coming n (exchanges (r .history)) (concat pieces) → Replied n (feeds rooms r pieces)
+    all-pieces n [] r v c = whole n r v c
+    all-pieces n (xs ∷ pieces) r v c =
+        let o = step (r .session) (feed xs (rooms (r .history))) in
+        all-pieces n pieces (turn r (feed xs (rooms (r .history)))) (one-piece n r xs (concat pieces) v c)
+        (subst (λ (es : List Exchange). Coming n es (concat pieces)) (sym (joins (r .history) o xs)) (comes-on n (exchanges (r .history)) xs (concat pieces) (o .answer .used) c))
 
 -- ---- eight replies
 
@@ -333,72 +408,135 @@ module _ (f : ℕ → Bool) (st : Steady f) (cuts : ℕ → Bool → List (List 
   abbrev Ends : Reached → Type 0
   Ends r = Named f (r .history) × (r .session ≡ made i Ready Off)
 
-  -- a command was given out by the newest call of a history, behind the events h
-  abbrev out : Plan → Search → Call → List Event → Reached
-  out plan found c h =
-      let o : Ran Outcome = issued i plan found (outputs h) in
-      record { session = o .answer .session; history = event c (o .answer) (o .bytes) ∷ h }
+  -- a command was given out by the newest call, behind n of its calibration, and all answers before it were the chip's
+  pub record Out (n : ℕ) (r : Reached) : Type 0 where
+    pub fine : Fine f st i rooms big r
+    pub running : isRunning (r .session .calibration) ≡ true
+    pub newest : Exchange
+    pub older : List Exchange
+    pub same : exchanges (r .history) ≡ newest ∷ older
+    pub unread : newest .bytes ≡ []
+    pub own : Own (newest .owner)
+    pub idles : Idled (newest .awaited)
+    pub agrees : Agrees f (answersIn (before (newest .owner) older))
+    pub many : length (answersIn (before (newest .owner) older)) ≡ n
 
-  -- nothing was fed since
-  abbrev Out : Plan → Search → Reached → Type 0
-  Out plan found r =
-      (old : List Exchange) × (exchanges (r .history) ≡ exchange (settingsAt plan (found .level) .source) (found .level) [] ∷ old)
-      × Agrees f (answersIn old)
+  event-is : (b : Bool) → eventOf b ≡ pick b 0x02 0x01
+  event-is true = refl
+  event-is false = refl
 
-  reply-of : (k : ℕ) (plan : Plan) (found : Search) (c : Call) (h : List Event) → After (out plan found c h) → Out plan found (out plan found c h)
-      → Came f st rooms big i (found .commands) (answered f cuts rooms outputs k (out plan found c h))
-  reply-of k plan found c h a (old, e, ag) =
-      let source : ℕ = settingsAt plan (found .level) .source in
-      let r : Reached = out plan found c h in
-      let x : Bool = f (tested (r .history)) in
-      let heard : heardOf source (concat (cuts k x)) ≡ whole (says (f (found .level))) =
-      ap (heardOf source) (cut k x .1) ∙ event-heard plan (found .level) x (cut k x .0) ∙ ap (λ (es : List Exchange). whole (says (f (levelOf es)))) e in
-      fed-all f st rooms big i 0 plan found (cuts k x) (begun (Idle source)) (r .history) a
-      (subst (Agrees f) (sym (ap answersIn e)) ag) (subst (λ (es : List Exchange). Coming f st rooms big es (concat (cuts k x))) (sym e) heard)
+  says-is : (b : Bool) → Woken (pick b Tag Timeout) ≡ says b
+  says-is true = refl
+  says-is false = refl
 
-  -- after the eighth
-  at-end : (n : ℕ) → n ≡ 8 → (x : Calibration) (r : Reached) → r .session ≡ made i Ready x → After r → Rests f st rooms big x n (r .history) → Ends r
-  at-end n l Off r e a (m, _) = (m, e)
-  at-end n l (On plan found) r e a m =
-      let v : Inv (made i Ready (On plan found)) (r .history) = subst (λ (s : Session). Inv s (r .history)) e (inv-of r a) in
-      absurd (omega (arith, v .live .1 .left))
+  replied : (k n : ℕ) (r : Reached) → Out n r → Replied f st i rooms big n (answered f cuts rooms outputs k r)
+  replied k n r o =
+      let x = o .newest in
+      let b : Bool = f (tested (r .history)) in
+      let at-level : tested (r .history) ≡ levelOf (x .owner) = ap newestLevel (o .same) in
+      let bytes : x .bytes ++ concat (cuts k b) ≡ 0x00 ∷ 0x01 ∷ pick b 0x02 0x01 ∷ cut k b .0 =
+      ap (λ (ys : List ℕ). ys ++ concat (cuts k b)) (o .unread) ∙ cut k b .1 ∙ ap (λ (z : ℕ). 0x00 ∷ 0x01 ∷ z ∷ cut k b .0) (event-is b) in
+      all-pieces f st i rooms big n (cuts k b) r (o .fine)
+      (record {
+        newest = x;
+        older = o .older;
+        same = o .same;
+        own = o .own;
+        agrees = o .agrees;
+        many = o .many;
+        reply = wakes-so (x .awaited) (o .idles) (x .bytes ++ concat (cuts k b)) b (cut k b .0) bytes ∙ ap Over (says-is b) ∙ ap (λ (l : ℕ). Over (says (f l))) at-level;
+      })
 
-  -- what is shown of a command with k replies to come after its own
-  abbrev Talks : ℕ → Type 0
-  Talks k =
-      (plan : Plan) (found : Search) (c : Call) (h : List Event) → k + found .commands ≡ 8 → After (out plan found c h) → Out plan found (out plan found c h)
-      → Ends (talk f cuts rooms outputs k (out plan found c h))
+  -- after the eighth answer none runs
+  at-end : (r : Reached) → Replied f st i rooms big 7 r → Ends r
+  at-end r m =
+      ⊎-elim
+      (λ on. absurd (⊎-elim (λ (w, _). true≢false (sym w ∙ ap isSome (m .resting))) (λ (_, t, few, _). omega (arith, t, few, m .many)) (lives r (m .fine .after) on)))
+      (λ (q, n). (n, q))
+      (m .fine .sound)
 
-  -- after an earlier one, with the next command
-  goes-on : (k n : ℕ) → suc k + n ≡ 8 → Talks k → (x : Calibration) (r : Reached) → r .session ≡ made i Ready x → After r → Agrees f (answers (r .history))
-      → Rests f st rooms big x n (r .history) → Ends (talk f cuts rooms outputs k (asks f cuts rooms outputs r))
-  goes-on k n l rest Off r e a ag (_, eight) = absurd (omega arith)
-  goes-on k n l rest (On plan found) r e a ag m =
-      let h : List Event = r .history in
-      let c : Call = next (outputs h) in
-      let found′ : Search = search (found .commands + 1) (found .level) in
-      let p : asks f cuts rooms outputs r ≡ out plan found′ c h =
-      ap (λ (s : Session). turn (record { session = s; history = h }) c) e
-      ∙ ap (λ (o : Ran Outcome). record { session = o .answer .session; history = event c (o .answer) (o .bytes) ∷ h }) (next-issued i plan found (outputs h) (omega arith) (wide h)) in
-      subst (λ (z : Reached). Ends (talk f cuts rooms outputs k z)) (sym p)
-      (rest plan found′ c h (omega arith) (subst After p (after-turn r c a))
-      (exchanges h, ap (λ (x : Exchange). x ∷ exchanges h) (asked-is i plan (found .level) _), ag))
+  -- before it the next command is due
+  next-out : (n : ℕ) (r : Reached) → suc n < 8 → Replied f st i rooms big n r → Out (suc n) (asks f cuts rooms outputs r)
+  next-out n r few m =
+      ⊎-elim (λ on. go (r .session .calibration) (r .session .state) on (m .fine .interface) m)
+      (λ (_, named). absurd (omega (arith, few, m .many, named .eight-answers))) (m .fine .sound)
+    where
+      h : List Event
+      h = r .history
 
-  talks : (k : ℕ) → Talks k
-  talks zero plan found c h l a o =
-      let m = reply-of 0 plan found c h a o in
-      at-end (found .commands) (omega arith) (m .calibration) _ (m .session) (m .after) (m .rests)
-  talks (suc k) plan found c h l a o =
-      let m = reply-of (suc k) plan found c h a o in
-      goes-on k (found .commands) l (talks k) (m .calibration) _ (m .session) (m .after) (m .agrees) (m .rests)
+      go : (c : Calibration) (state : State) → isRunning c ≡ true → r .session .interface ≡ i
+          → Replied f st i rooms big n (record { session = made (r .session .interface) state c; history = h })
+          → Out (suc n) (turn (record { session = made (r .session .interface) state c; history = h }) (next (outputs h)))
+      go Off state on e m = absurd (true≢false (sym on))
+      go (On plan found) state on e m = by state (inv-of (record { session = made (r .session .interface) state (On plan found); history = h }) (m .fine .after)) m
+        where
+          j : Interface
+          j = r .session .interface
+
+          by : (state : State) → Inv (made j state (On plan found)) h → Replied f st i rooms big n (record { session = made j state (On plan found); history = h })
+              → Out (suc n) (turn (record { session = made j state (On plan found); history = h }) (next (outputs h)))
+          by PowerUp v m = absurd (v .live)
+          by Ready v m = sent (exchanges h) refl (v .live)
+            where
+              r₀ : Reached
+              r₀ = record { session = made j Ready (On plan found); history = h }
+
+              sent : (es : List Exchange) → es ≡ exchanges h → Live (On plan found) Ready es → Out (suc n) (turn r₀ (next (outputs h)))
+              sent [] q l = absurd l
+              sent (x ∷ es) q (_, d) =
+                  let o : step (made j Ready (On plan found)) (next (outputs h)) ≡ does (made j Ready (On plan found)) (next (outputs h)) =
+                  next-sent j plan found (outputs h) (omega (arith, d .left)) (wide h) in
+                  subst (λ (z : Ran Outcome). Out (suc n) (record { session = z .answer .session; history = event (next (outputs h)) (z .answer) (z .bytes) ∷ h })) (sym o)
+                  (record {
+                    fine =
+                        record {
+                          after = subst (λ (z : Ran Outcome). After (record { session = z .answer .session; history = event (next (outputs h)) (z .answer) (z .bytes) ∷ h })) o (after-turn r₀ (next (outputs h)) (m .fine .after));
+                          interface = e;
+                          sound = inl refl;
+                        };
+                    running = refl;
+                    newest = _;
+                    older = exchanges h;
+                    same = refl;
+                    unread = refl;
+                    own = tt;
+                    idles = given-idle j plan (found .level) _;
+                    agrees = m .agrees;
+                    many = m .many;
+                  })
+          by (Selected protocol) v m = absurd (v .live)
+          by (Waiting p selected) v m = absurd (true≢false (ap isSome (m .resting)))
+          by Lost v m = absurd (v .live)
+
+  talks : (k n : ℕ) → k + n ≡ 7 → (r : Reached) → Out n r → Ends (talk f cuts rooms outputs k r)
+  talks zero n e r o = at-end (answered f cuts rooms outputs 0 r) (subst (λ (m : ℕ). Replied f st i rooms big m (answered f cuts rooms outputs 0 r)) {x = n} {y = 7} (omega arith) (replied 0 n r o))
+  talks (suc k) n e r o =
+      talks k (suc n) (omega arith) (asks f cuts rooms outputs (answered f cuts rooms outputs (suc k) r))
+      (next-out n (answered f cuts rooms outputs (suc k) r) (omega arith) (replied (suc k) n r o))
 
 pub calibrates : Calibrates
 calibrates f st cuts cut rooms outputs big wide plan few i s =
     let r : Reached = turn (on s i) pulse in
     let h : List Event = r .history in
     let c : Call = calibrate plan (outputs h) in
-    let p : turn r c ≡ out f st cuts cut rooms outputs big wide i plan (search 1 0x00) c h =
-    ap (λ (o : Ran Outcome). record { session = o .answer .session; history = event c (o .answer) (o .bytes) ∷ h }) (first-issued i plan (outputs h) few (wide h)) in
-    subst (λ (z : Reached). Ends f st cuts cut rooms outputs big wide i (talk f cuts rooms outputs 7 z)) (sym p)
-    (talks f st cuts cut rooms outputs big wide i 7 plan (search 1 0x00) c h refl (subst After p (s, i, pulse ∷ c ∷ [], refl))
-    ([], ap (λ (x : Exchange). x ∷ []) (asked-is i plan 0x00 _), λ l x m. absurd (List·Memᴰ·not-nil m)))
+    let o : step (made i Ready Off) c ≡ does (made i Ready Off) c =
+    does-it (made i Ready Off) c (refl, (refl, (le-ltb 3 (plan .prescaler) few, long-enough i plan 0x00 (outputs h) (wide h)))) in
+    talks f st cuts cut rooms outputs big wide i 7 0 refl (turn r c)
+    (subst (λ (z : Ran Outcome). Out f st cuts cut rooms outputs big wide i 0 (record { session = z .answer .session; history = event c (z .answer) (z .bytes) ∷ h })) (sym o)
+    (record {
+      fine =
+          record {
+            after = subst (λ (z : Ran Outcome). After (record { session = z .answer .session; history = event c (z .answer) (z .bytes) ∷ h })) o (s, i, pulse ∷ c ∷ [], refl);
+            interface = refl;
+            sound = inl refl;
+          };
+      running = refl;
+      newest = _;
+      older = exchanges h;
+      same = refl;
+      unread = refl;
+      own = tt;
+      idles = given-idle i plan 0x00 _;
+      agrees = λ l x m. absurd (List·Memᴰ·not-nil m);
+      many = refl;
+    }))

@@ -1,14 +1,14 @@
 -- The statements of the promises, as named types. proofs/ proves each.
 -- Assumes nothing.
-use Prim.Native.Nat.{ℕ, suc, _+_, _%_, _≤_, _<_}
+use Prim.Native.Nat.{ℕ, suc, _+_, _-_, _%_, _≤_, _<_}
 use mathlib.Core.Path.{_≡_}
-use mathlib.Core.Bool.{true}
+use mathlib.Core.Bool.{true, false}
 use mathlib.Core.Logic.{_↔_, _⊎_}
 use mathlib.Core.List.{List, [], _∷_, _++_}
 use lib.ListN.{length, drop}
 use Rattle.model.specs.declared.Interface.{Interface}
 use Rattle.model.specs.declared.Refusal.{Refusal}
-use Rattle.model.specs.declared.Refusal.the-variants.{Invalid, NoBand}
+use Rattle.model.specs.declared.Refusal.the-variants.{Invalid}
 use Rattle.model.specs.declared.Settings.{Settings}
 use Rattle.model.specs.declared.Frame.{Frame}
 use Rattle.model.specs.declared.Reading.{Reading}
@@ -17,40 +17,41 @@ use Rattle.model.specs.declared.Written.{Written}
 use Rattle.model.specs.declared.Awaited.{Awaited}
 use Rattle.model.specs.declared.Progress.{Progress}
 use Rattle.model.specs.declared.Verdict.{Verdict}
-use Rattle.model.specs.declared.Verdict.the-variants.{More, Good, Error, Malformed, NoRoom}
+use Rattle.model.specs.declared.End.{End}
+use Rattle.model.specs.declared.End.the-variants.{Good, Woken, Error, Malformed}
+use Rattle.model.specs.declared.Verdict.the-variants.{More, Ended, NoRoom}
 use Rattle.model.specs.declared.Place.{Place}
 use Rattle.model.specs.declared.Fed.{Fed}
 use Rattle.model.specs.declared.Plan.{Plan}
 use Rattle.model.specs.declared.Search.{Search}
-use Rattle.model.specs.declared.Seen.{Seen}
-use Rattle.model.specs.declared.Guard.{Guard}
+use Rattle.model.specs.declared.Wake.{Wake}
 use Rattle.model.specs.declared.Session.{Session}
 use Rattle.model.specs.declared.Answer.{Answer}
-use Rattle.model.specs.Words.{Pastes, Bytes, concat}
-use Rattle.model.specs.Contract.{Ran, OneAnswer, OneOutcome}
-use Rattle.model.specs.Frames.{Command, idleData, frame, allowed, wrapped, Transfer, write, readCommand, command, Writes, Reads, Receives, Flagged, Gathers, Allows, Prescales}
-use Rattle.model.specs.Replies.{leastRoom, Reply, Meaning, meaning, reply, begun, feed, dataOf, Feeds, Chooses}
-use Rattle.model.specs.Refusals.{numberOf}
+use Rattle.words.specs.Words.{Pastes, Bytes, concat}
+use Rattle.words.specs.Contract.{Ran, OneAnswer, OneOutcome}
+use Rattle.model.specs.Frames.{Command, idleData, frame, allowed, wrapped, Transfer, write, readCommand, commandOf, Writes, Reads, Receives, Flagged, Gathers, Allows, Prescales}
+use Rattle.model.specs.Replies.{leastRoom, Reply, Meaning, meaning, hasData, reply, begun, feed, dataOf, Feeds, Chooses}
+use Rattle.model.specs.Refusals.{number, bandNumber}
 use Rattle.model.specs.Calibration.{band, Sets, Hears, Guards}
-use Rattle.model.specs.Session.{Call, request, awaiting, outcome, refuse, step, Meets, Unpowered}
-use Rattle.model.specs.Checks.{checks, number, numbered, Passes, First, lent, isMild}
+use Rattle.model.specs.Checks.{Passes, First, mild}
+use Rattle.model.specs.Session.{Call, request, lent, awaiting, outcome, refuse, checks, step, table, Meets, Unpowered}
 use Rattle.model.specs.Times.{ticks, times, tTO, exactly, Timed, Waits}
 
 -- ---- demand 1: refusals
 
 -- refusal k is given if and only if its condition holds and none before it in the order of checks does, for every call and every session
 abbrev pub Exactly : Type 0
-Exactly = (s : Session) (c : Call) (k : ℕ) → (numbered (step s c .answer .answer) ≡ number k) ↔ First k (checks s c)
+Exactly = (s : Session) (c : Call) (k : Refusal) → (step s c .answer .answer ≡ Answer.Refused k) ↔ First k (table s c)
 
 -- refusals 1, 2, 3, 4, 6 and 11 change nothing, write nothing and consume nothing
 abbrev pub Untouched : Type 0
 Untouched =
-    (s : Session) (c : Call) (k : Refusal) → step s c .answer .answer ≡ Answer.Refused k → isMild (numberOf k) ≡ true →
+    (s : Session) (c : Call) (k : Refusal) → step s c .answer .answer ≡ Answer.Refused k → mild k ≡ true →
     step s c ≡ refuse s k (lent c)
 
 -- the guard band is refused exactly below 08, above F4 and where the reference is not a multiple of 4
 abbrev pub BandRefused : Type 0
-BandRefused = (r : ℕ) → (band r ≡ Guard.Refused NoBand) ↔ ((r < 0x08) ⊎ ((0xF4 < r) ⊎ (r % 4 ≡ 0 → ⊥)))
+BandRefused = (r : ℕ) → (bandNumber (band r) ≡ number 11) ↔ ((r < 0x08) ⊎ ((0xF4 < r) ⊎ (r % 4 ≡ 0 → ⊥)))
 
 -- a request of which no check holds (valid fields and room enough, nothing awaited and no calibration running, in Ready or Selected, SendRecv
 -- in Selected and with n = 0 only for protocol 1) sends the frame of its command and waits for its reply
@@ -68,11 +69,11 @@ Sends =
 
 -- the reader takes back every frame of every allowed command, as that command
 abbrev pub TakesBack : Type 0
-TakesBack = (c : Command) → allowed c ≡ true → (f : Frame) × (readCommand (frame c) ≡ Taken f) × (command (frame c) f ≡ c)
+TakesBack = (c : Command) → allowed c ≡ true → (f : Frame) × (readCommand (frame c) ≡ Taken f) × (commandOf (frame c) f ≡ c)
 
 -- whatever it takes is the frame of the allowed command that it names
 abbrev pub OnlyFrames : Type 0
-OnlyFrames = (xs : List ℕ) (f : Frame) → readCommand xs ≡ Taken f → (allowed (command xs f) ≡ true) × (frame (command xs f) ≡ xs)
+OnlyFrames = (xs : List ℕ) (f : Frame) → readCommand xs ≡ Taken f → (allowed (commandOf xs f) ≡ true) × (frame (commandOf xs f) ≡ xs)
 
 -- all else is refused with 2
 abbrev pub RefusesElse : Type 0
@@ -86,23 +87,27 @@ WritesNothing = (i : Interface) (t : Transfer) (out : List ℕ) (k : Refusal) �
 
 -- some reply to the command begins with the bytes, and is longer
 abbrev pub GoesOn : Awaited → List ℕ → Type 0
-GoesOn a xs = (b : ℕ) × (bs : List ℕ) × (v : Verdict) × (payload : List ℕ) × Reply a (xs ++ b ∷ bs) v payload
+GoesOn a xs = (b : ℕ) × (bs : List ℕ) × (e : End) × (payload : List ℕ) × Reply a (xs ++ b ∷ bs) e payload
 
--- the bytes begin with a reply, of the verdict and the data given, that takes so many bytes
-abbrev pub Begins : Awaited → List ℕ → Verdict → List ℕ → ℕ → Type 0
-Begins a xs v payload used = (ys : List ℕ) × (zs : List ℕ) × (xs ≡ ys ++ zs) × (used ≡ length ys) × Reply a ys v payload
+-- the bytes begin with a reply, of the end and the data given, that takes so many bytes
+abbrev pub Begins : Awaited → List ℕ → End → List ℕ → ℕ → Type 0
+Begins a xs e payload used = (ys : List ℕ) × (zs : List ℕ) × (xs ≡ ys ++ zs) × (used ≡ length ys) × Reply a ys e payload
 
 -- malformed at the first byte that no reply to the awaited command has there after the bytes before it
-abbrev pub Breaks : Awaited → List ℕ → ℕ → Type 0
-Breaks a xs used =
-    (ys : List ℕ) × (b : ℕ) × (zs : List ℕ) × (xs ≡ ys ++ b ∷ zs) × (used ≡ suc (length ys)) × GoesOn a ys
-    × ((ws : List ℕ) (v : Verdict) (payload : List ℕ) → Reply a (ys ++ b ∷ ws) v payload → ⊥)
+abbrev pub Breaks : Awaited → List ℕ → ℕ → ℕ → ℕ → Type 0
+Breaks a xs place b used =
+    (ys : List ℕ) × (zs : List ℕ) × (xs ≡ ys ++ b ∷ zs) × (place ≡ length ys) × (used ≡ suc (length ys)) × GoesOn a ys
+    × ((ws : List ℕ) (e : End) (payload : List ℕ) → Reply a (ys ++ b ∷ ws) e payload → ⊥)
+
+abbrev pub EndsBy : End → Awaited → List ℕ → List ℕ → ℕ → Type 0
+EndsBy Good a xs payload used = Begins a xs Good payload used
+EndsBy (Woken w) a xs payload used = Begins a xs (Woken w) payload used
+EndsBy (Error code) a xs payload used = Begins a xs (Error code) payload used
+EndsBy (Malformed place b) a xs payload used = Breaks a xs place b used
 
 abbrev pub MeansBy : Verdict → Awaited → List ℕ → List ℕ → ℕ → Type 0
 MeansBy More a xs payload used = GoesOn a xs × (used ≡ length xs)
-MeansBy Good a xs payload used = Begins a xs Good payload used
-MeansBy (Error code) a xs payload used = Begins a xs (Error code) payload used
-MeansBy Malformed a xs payload used = Breaks a xs used
+MeansBy (Ended e) a xs payload used = EndsBy e a xs payload used
 MeansBy NoRoom a xs payload used = ⊥
 
 -- what the table says of bytes is right by the replies, for every command and all bytes
@@ -112,9 +117,7 @@ Tabled = (a : Awaited) (xs : List ℕ) → MeansBy (reply a xs .verdict) a xs (r
 -- the first of two where the verdict is More, otherwise the second
 abbrev pub ifMore : {A : Type 0} → Verdict → A → A → A
 ifMore More x y = x
-ifMore Good x y = y
-ifMore (Error code) x y = y
-ifMore Malformed x y = y
+ifMore (Ended e) x y = y
 ifMore NoRoom x y = y
 
 -- a piece was fed, with k bytes consumed before it: the next is fed where it answers More, and otherwise its answer is the end
@@ -132,21 +135,32 @@ feeds p (xs ∷ pieces) room k = onward (feed p xs room) xs k (λ p′ room′ k
 -- under any cutting the verdict, the data bytes and the number of bytes consumed in all are those that the table says of the whole
 abbrev pub Cutting : Type 0
 Cutting =
-    (a : Awaited) (pieces : List (List ℕ)) (room : List ℕ) → leastRoom ≤ length room → Bytes (concat pieces) →
+    (a : Awaited) (pieces : List (List ℕ)) (room : List ℕ) → leastRoom ≤ length room →
     feeds (begun a) pieces room 0 ≡ reply a (concat pieces)
 
--- the reply ended with a byte of this very piece, and the next would be read from its start
-pub record Ended (piece : List ℕ) (p : Progress) (r : Fed) : Type 0 where
-  pub some : 0 < r .used
-  pub no-more : r .used ≤ length piece
-  pub anew : r .progress ≡ begun (p .awaited)
+-- where reading stands and what the room holds, where the pieces are fed in order with one room
+abbrev pub standing : Progress → List ℕ → List (List ℕ) → Ran Progress
+standing p room [] = record { answer = p; bytes = room }
+standing p room (xs ∷ pieces) = standing (feed p xs room .answer .progress) (feed p xs room .bytes) pieces
 
--- a piece that answers More is consumed whole; a malformed one and the chip's error write nothing; a room too short changes nothing
+-- while more is to come, the data bytes already taken stand at the front of the room, the rest is as it was, and the same reply is awaited
+abbrev pub Held : Type 0
+Held =
+    (a : Awaited) (pieces : List (List ℕ)) (room : List ℕ) → leastRoom ≤ length room → reply a (concat pieces) .verdict ≡ More →
+    (standing (begun a) room pieces .bytes ≡ drop 2 (concat pieces) ++ drop (length (concat pieces) - 2) room)
+    × (standing (begun a) room pieces .answer .awaited ≡ a)
+
+-- the reply ended with a byte of this very piece, and the next would be read from its start; an error and a malformed one write nothing
+pub record Closes (e : End) (piece room : List ℕ) (p : Progress) (m : Ran Fed) : Type 0 where
+  pub some : 0 < m .answer .used
+  pub no-more : m .answer .used ≤ length piece
+  pub anew : m .answer .progress ≡ begun (p .awaited)
+  pub unwritten : hasData e ≡ false → m .bytes ≡ room
+
+-- a piece that answers More is consumed whole, and the same reply is awaited; a room too short changes nothing
 abbrev pub TakesBy : Verdict → List ℕ → List ℕ → Progress → Ran Fed → Type 0
-TakesBy More piece room p m = m .answer .used ≡ length piece
-TakesBy Good piece room p m = Ended piece p (m .answer)
-TakesBy (Error code) piece room p m = Ended piece p (m .answer) × (m .bytes ≡ room)
-TakesBy Malformed piece room p m = Ended piece p (m .answer) × (m .bytes ≡ room)
+TakesBy More piece room p m = (m .answer .used ≡ length piece) × (m .answer .progress .awaited ≡ p .awaited)
+TakesBy (Ended e) piece room p m = Closes e piece room p m
 TakesBy NoRoom piece room p m = (m .answer .used ≡ 0) × (m .answer .progress ≡ p) × (m .bytes ≡ room)
 
 abbrev pub Takes : Type 0
@@ -184,7 +198,7 @@ pub record OneEach : Type 0 where
   pub feeds : (p : Progress) (piece room : List ℕ) → OneOutcome (Feeds p piece room)
   pub chooses : (piece room : List ℕ) (place : Place) → OneAnswer (Chooses piece room place)
   pub sets : (plan : Plan) (level : ℕ) → OneAnswer (Sets plan level)
-  pub hears : (s : Search) (answer : Seen) → OneAnswer (Hears s answer)
+  pub hears : (s : Search) (w : Wake) → OneAnswer (Hears s w)
   pub guards : (reference : ℕ) → OneAnswer (Guards reference)
   pub unpowered : OneAnswer Unpowered
   pub meets : (s : Session) (call : Call) → OneOutcome (Meets s call)

@@ -1,24 +1,26 @@
 // What a piece that was read does to a session that waits, and where it leads a calibration.
 ghost use mathlib.Core.Path.{_≡_};
-ghost use Rattle.model.specs.Session.{afterGood, afterError, eventIn, errorBy, takenBy};
+ghost use Rattle.model.specs.Session as sessions;
 use model::Answer;
 use model::Awaited;
 use model::Calibration;
+use model::End;
 use model::Fed;
-use model::Interface;
+use model::Kind;
 use model::Outcome;
 use model::Place;
 use model::Plan;
 use model::Refusal;
-use model::Seen;
 use model::Session;
 use model::State;
 use model::Turn;
 use model::Verdict;
+use model::Wake;
+use states::answers;
 
 // Ready for protocol 0, Selected otherwise.
 fn resting(protocol: u8) -> State
-    ensures { λ r. ⌜ r ≡ Rattle.model.specs.Session.resting protocol ⌝ }
+    ensures { λ r. ⌜ r ≡ sessions.resting protocol ⌝ }
 {
     if protocol == 0 {
         return State::Ready;
@@ -28,68 +30,39 @@ fn resting(protocol: u8) -> State
 
 // The state after a good reply, with the protocol that was selected before.
 fn after_good(awaited: Awaited, selected: u8) -> State
-    ensures { λ r. ⌜ r ≡ afterGood awaited selected ⌝ }
+    ensures { λ r. ⌜ r ≡ sessions.afterGood awaited selected ⌝ }
 {
-    match awaited {
-        Awaited::Idn => resting(selected),
-        Awaited::ProtocolSelect { protocol } => resting(protocol),
-        Awaited::SendRecv => resting(selected),
-        Awaited::Idle { source: _ } => State::Ready,
-        Awaited::Echo => resting(selected),
+    let kind = awaited.kind;
+    if kinds::are_same(kind, Kind::ProtocolSelect) {
+        return resting(awaited.first);
     }
+    resting(selected)
 }
 
 // The state after the chip's error.
 fn after_error(awaited: Awaited, selected: u8) -> State
-    ensures { λ r. ⌜ r ≡ afterError awaited selected ⌝ }
+    ensures { λ r. ⌜ r ≡ sessions.afterError awaited selected ⌝ }
 {
-    match awaited {
-        Awaited::Idn => resting(selected),
-        Awaited::ProtocolSelect { protocol: _ } => State::Ready,
-        Awaited::SendRecv => resting(selected),
-        Awaited::Idle { source: _ } => resting(selected), // it keeps the selection
-        Awaited::Echo => resting(selected),
+    let kind = awaited.kind;
+    if kinds::are_same(kind, Kind::ProtocolSelect) {
+        return State::Ready; // the protocol that was asked for is not selected, nor the one before
     }
+    resting(selected) // Idle keeps the selection
 }
 
-// The event byte, where the data are in the piece.
-fn event_in(piece: &[u8], place: Place) -> u8
-    ensures { λ r. ⌜ r ≡ eventIn (now (piece .entry)) place ⌝ }
-{
-    match place {
-        Place::Nowhere => 0,
-        Place::Piece { start, count: _ } => if start < piece.len() { piece[start] } else { 0 },
-        Place::Room { count: _ } => 0,
-    }
-}
-
-// An event of a calibration's command, whose sources are the timeout and the tag.
-fn seen(event: u8) -> Seen
-    ensures { λ r. ⌜ r ≡ Rattle.model.specs.Session.seen event ⌝ }
-{
-    if event == 0x02 {
-        return Seen::Tag;
-    }
-    Seen::Timeout
-}
-
-// The reply is over.
+// The session goes on in a state, with a calibration or none.
 fn ended(
-    interface: Interface,
+    s: Session,
     state: State,
     calibration: Calibration,
     answer: Answer,
     used: usize,
     place: Place,
 ) -> Outcome
-    ensures { λ r. ⌜ r ≡ Rattle.model.specs.Session.ended interface state calibration answer used place ⌝ }
+    ensures { λ r. ⌜ r ≡ sessions.ended s state calibration answer used place ⌝ }
 {
     Outcome {
-        session: Session {
-            interface,
-            state,
-            calibration,
-        },
+        session: states::into(s, state, calibration),
         answer,
         used,
         place,
@@ -97,22 +70,15 @@ fn ended(
 }
 
 // Where an answer leads a calibration.
-fn turned(
-    turn: Turn,
-    plan: Plan,
-    interface: Interface,
-    state: State,
-    used: usize,
-    place: Place,
-) -> Outcome
-    ensures { λ r. ⌜ r ≡ Rattle.model.specs.Session.turned turn plan interface state used place ⌝ }
+fn turned(turn: Turn, plan: Plan, wake: Wake, s: Session, used: usize, place: Place) -> Outcome
+    ensures { λ r. ⌜ r ≡ sessions.turned turn plan wake s used place ⌝ }
 {
     match turn {
         Turn::Goes(search) => ended(
-            interface,
-            state,
+            s,
+            State::Ready,
             Calibration::On { plan, search },
-            Answer::Good,
+            Answer::Woken { wake },
             used,
             place,
         ),
@@ -120,8 +86,8 @@ fn turned(
             reference,
             commands,
         } => ended(
-            interface,
-            state,
+            s,
+            State::Ready,
             Calibration::Off,
             Answer::Reference {
                 reference,
@@ -131,8 +97,8 @@ fn turned(
             place,
         ),
         Turn::Fails(refusal) => ended(
-            interface,
-            state,
+            s,
+            State::Ready,
             Calibration::Off,
             Answer::Refused(refusal),
             used,
@@ -141,37 +107,29 @@ fn turned(
     }
 }
 
-// A good reply.
-fn good(
-    calibration: Calibration,
-    interface: Interface,
-    state: State,
-    piece: &[u8],
-    used: usize,
-    place: Place,
-) -> Outcome
-    ensures { λ r. ⌜ r ≡ Rattle.model.specs.Session.good calibration interface state (now (piece .entry)) used place ⌝ }
+// An Idle is over, outside a calibration or in one.
+fn woken(s: Session, wake: Wake, used: usize, place: Place) -> Outcome
+    ensures { λ r. ⌜ r ≡ sessions.woken (s .calibration) wake s used place ⌝ }
 {
+    let calibration = s.calibration;
     match calibration {
         Calibration::Off => ended(
-            interface,
-            state,
+            s,
+            State::Ready, // the selection is forgotten
             Calibration::Off,
-            Answer::Good,
+            Answer::Woken { wake },
             used,
             place,
         ),
         Calibration::On { plan, search } => {
-            let event = event_in(piece, place);
-            let turn = calibration::heard(search, seen(event));
-            turned(turn, plan, interface, state, used, place)
+            turned(calibration::heard(search, wake), plan, wake, s, used, place)
         }
     }
 }
 
 // The chip's error: 7 outside calibration, 12 in it.
 fn error_by(calibration: Calibration, code: u8) -> Refusal
-    ensures { λ r. ⌜ r ≡ errorBy calibration code ⌝ }
+    ensures { λ r. ⌜ r ≡ sessions.errorBy calibration code ⌝ }
 {
     match calibration {
         Calibration::Off => Refusal::ChipError { code },
@@ -182,11 +140,51 @@ fn error_by(calibration: Calibration, code: u8) -> Refusal
     }
 }
 
-// What the piece does, by what was read.
-pub fn taken(fed: Fed, s: Session, awaited: Awaited, selected: u8, piece: &[u8]) -> Outcome
-    ensures { λ r. ⌜ r ≡ takenBy (fed .verdict) fed s awaited selected (now (piece .entry)) ⌝ }
+// The reply is over.
+fn ended_by(
+    end: End,
+    s: Session,
+    awaited: Awaited,
+    selected: u8,
+    used: usize,
+    place: Place,
+) -> Outcome
+    ensures { λ r. ⌜ r ≡ sessions.endedBy end s awaited selected used place ⌝ }
 {
-    let interface = s.interface;
+    let calibration = s.calibration;
+    match end {
+        End::Good => ended(
+            s,
+            after_good(awaited, selected),
+            calibration,
+            Answer::Good,
+            used,
+            place,
+        ),
+        End::Woken { wake } => woken(s, wake, used, place),
+        End::Error { code } => ended(
+            s,
+            after_error(awaited, selected),
+            Calibration::Off,
+            Answer::Refused(error_by(calibration, code)),
+            used,
+            place,
+        ),
+        End::Malformed { place: _, byte: _ } => ended(
+            s,
+            State::Lost,
+            Calibration::Off,
+            Answer::Refused(Refusal::Malformed),
+            used,
+            place,
+        ),
+    }
+}
+
+// What the piece does, by what was read.
+pub fn outcome_of(fed: Fed, s: Session, awaited: Awaited, selected: u8) -> Outcome
+    ensures { λ r. ⌜ r ≡ sessions.outcomeBy (fed .verdict) fed s awaited selected ⌝ }
+{
     let calibration = s.calibration;
     let progress = fed.progress;
     let place = fed.place;
@@ -194,42 +192,14 @@ pub fn taken(fed: Fed, s: Session, awaited: Awaited, selected: u8, piece: &[u8])
     let verdict = fed.verdict;
     match verdict {
         Verdict::More => ended(
-            interface,
+            s,
             State::Waiting { progress, selected },
             calibration,
             Answer::More,
             used,
             Place::Nowhere,
         ),
-        Verdict::Good => good(
-            calibration,
-            interface,
-            after_good(awaited, selected),
-            piece,
-            used,
-            place,
-        ),
-        Verdict::Error { code } => ended(
-            interface,
-            after_error(awaited, selected),
-            Calibration::Off,
-            Answer::Refused(error_by(calibration, code)),
-            used,
-            Place::Nowhere,
-        ),
-        Verdict::Malformed => ended(
-            interface,
-            State::Lost,
-            Calibration::Off,
-            Answer::Refused(Refusal::Malformed),
-            used,
-            Place::Nowhere,
-        ),
-        Verdict::NoRoom => Outcome {
-            session: s,
-            answer: Answer::Refused(Refusal::Short),
-            used: 0,
-            place: Place::Nowhere,
-        },
+        Verdict::Ended(end) => ended_by(end, s, awaited, selected, used, place),
+        Verdict::NoRoom => answers::refused(s, Refusal::Short),
     }
 }

@@ -9,7 +9,7 @@ use lib.Dec.{T, eqb, eqb→eq}
 use lib.Ieee.Bits.{is-true}
 use lib.Ieee.Fits.{and-l, and-r}
 use lib.ListN.{length}
-use Rattle.model.proofs.Words.{all, each}
+use Rattle.words.proofs.Words.{all, each}
 use Rattle.text.specs.Decimal.{areDecimal, valueOf}
 use Rattle.questions.specs.Milliseconds.{behindPoint}
 use Rattle.questions.specs.Claims.{Exact, NoTrailingZero}

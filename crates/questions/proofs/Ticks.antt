@@ -14,7 +14,7 @@ use lib.Ieee.Exact.{HasValue}
 use lib.Ieee.Positive.{num, den, den-pos, value→cross}
 use lib.Ieee.Scale.{finite, grid, overflow, round-val, round-under, grid-scale, normal-of-fraction}
 use Rattle.model.specs.declared.Settings.{Settings}
-use Rattle.model.specs.Words.{Bytes}
+use Rattle.words.specs.Words.{Bytes}
 use Rattle.model.specs.Frames.{prescaler, idleData}
 use Rattle.model.specs.Times.{tL, tREF, tINACTIVE, tTO, tOSC, tDAC, milliseconds, exactly}
 use Rattle.model.proofs.Exactness.{exact, greatest}

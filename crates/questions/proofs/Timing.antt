@@ -9,11 +9,11 @@ use Rattle.model.specs.declared.Refusal.the-variants.{Invalid}
 use Rattle.model.specs.declared.Timing.{Timing}
 use Rattle.model.specs.declared.Wait.{Wait}
 use Rattle.model.specs.declared.Wait.the-variants.{Endless, After}
-use Rattle.model.specs.declared.Waiting.{Waiting}
-use Rattle.model.specs.Words.{Bytes, pick, bit}
+use Rattle.model.specs.declared.Waited.{Waited}
+use Rattle.words.specs.Words.{Bytes, pick, bit}
 use Rattle.model.specs.Frames.{idleData, settingsAllowed}
 use Rattle.model.specs.Times.{ticks, times, tTO, milliseconds, timesOf, waitOf}
-use Rattle.model.proofs.Words.{ways}
+use Rattle.words.proofs.Words.{ways}
 use Rattle.text.specs.Writing.{Puts, word}
 use Rattle.answers.specs.Answers.{refusalText}
 use Rattle.text.proofs.Writing.{by}
@@ -40,15 +40,15 @@ TimingFits (Timing.Refused refusal) = Unit {0}
 
 -- ---- waits
 
-abbrev pub waitingText : Waiting → List (List ℕ)
-waitingText (Waiting.Known Endless) = word "endless" ∷ []
-waitingText (Waiting.Known (After ms)) = word "after" ∷ (millisecondsText (ticksOf ms) ++ (word " ms" ∷ []))
-waitingText (Waiting.Refused refusal) = refusalText refusal
+abbrev pub waitingText : Waited → List (List ℕ)
+waitingText (Waited.Known Endless) = word "endless" ∷ []
+waitingText (Waited.Known (After ms)) = word "after" ∷ (millisecondsText (ticksOf ms) ++ (word " ms" ∷ []))
+waitingText (Waited.Refused refusal) = refusalText refusal
 
-abbrev pub WaitingFits : Waiting → Type 0
-WaitingFits (Waiting.Known Endless) = Unit {0}
-WaitingFits (Waiting.Known (After ms)) = Countable ms
-WaitingFits (Waiting.Refused refusal) = Unit {0}
+abbrev pub WaitingFits : Waited → Type 0
+WaitingFits (Waited.Known Endless) = Unit {0}
+WaitingFits (Waited.Known (After ms)) = Countable ms
+WaitingFits (Waited.Refused refusal) = Unit {0}
 
 -- ---- of settings that are bytes
 
@@ -70,7 +70,7 @@ module _ (s : Settings) (byte : Bytes (idleData s)) where
       ways TimingFits (settingsAllowed s)
       (λ _. (k .low .fits, (k .reference .fits, (k .inactive .fits, (k .timeout .fits, (k .osc .fits, k .dac .fits)))))) (λ _. tt)
 
-  waiting : (b d : Bool) → waitingText (pick b (Waiting.Known (pick d (After (milliseconds (tTO s))) Endless)) (Waiting.Refused Invalid))
+  waiting : (b d : Bool) → waitingText (pick b (Waited.Known (pick d (After (milliseconds (tTO s))) Endless)) (Waited.Refused Invalid))
       ≡ pick b (pick d (word "after" ∷ (millisecondsText (tTO s) ++ (word " ms" ∷ []))) (word "endless" ∷ [])) (refusalText Invalid)
   waiting true true = ap (λ (n : ℕ). word "after" ∷ (millisecondsText n ++ (word " ms" ∷ []))) (six-counted s byte .timeout .is)
   waiting true false = refl
@@ -82,4 +82,4 @@ module _ (s : Settings) (byte : Bytes (idleData s)) where
   pub waiting-fits : WaitingFits (waitOf s)
   waiting-fits =
       ways WaitingFits (settingsAllowed s)
-      (λ _. ways (λ (w : Wait). WaitingFits (Waiting.Known w)) (bit 0 (s .source)) (λ _. six-counted s byte .timeout .fits) (λ _. tt)) (λ _. tt)
+      (λ _. ways (λ (w : Wait). WaitingFits (Waited.Known w)) (bit 0 (s .source)) (λ _. six-counted s byte .timeout .fits) (λ _. tt)) (λ _. tt)

@@ -7,7 +7,7 @@ use lib.Dec.{T, eqb}
 use lib.IntN.{pos}
 use lib.Ieee.{Float, fin, binary32, mul, lt, toUnsigned}
 use Rattle.model.specs.declared.Times.{Times}
-use Rattle.model.specs.Words.{pick}
+use Rattle.words.specs.Words.{pick}
 use Rattle.text.specs.Writing.{word, number}
 
 -- the digits of rest / 32 behind the point, until nothing is left

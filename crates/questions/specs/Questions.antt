@@ -7,15 +7,12 @@ use Rattle.model.specs.declared.Settings.{Settings}
 use Rattle.model.specs.declared.Ticks.{Ticks}
 use Rattle.model.specs.declared.Refusal.the-variants.{Invalid}
 use Rattle.model.specs.declared.Guard.{Guard}
-use Rattle.model.specs.declared.Guard.the-variants.{Band}
-use Rattle.model.specs.declared.Guard.the-variants.{Refused as NoGuard}
-use Rattle.model.specs.declared.Frame.{Frame}
-use Rattle.model.specs.declared.Frame.the-variants.{Idn, ProtocolSelect, SendRecv, Idle, Echo}
+use Rattle.model.specs.declared.Guard.the-variants.{Band, NoBand}
 use Rattle.model.specs.declared.Reading.{Reading}
 use Rattle.model.specs.declared.Reading.the-variants.{Taken}
 use Rattle.model.specs.declared.Reading.the-variants.{Refused as NoFrame}
 use Rattle.model.specs.declared.Flags.{Flags}
-use Rattle.model.specs.Words.{pick, bit}
+use Rattle.words.specs.Words.{pick, bit}
 use Rattle.model.specs.Frames.{settings, settingsAllowed, readCommand, flags, received}
 use Rattle.model.specs.Times.{ticks, tTO}
 use Rattle.model.specs.Calibration.{band}
@@ -25,7 +22,8 @@ use Rattle.calls.specs.declared.Question.{Question}
 use Rattle.calls.specs.declared.Question.the-variants.{Times, Wait, Command, Received}
 use Rattle.calls.specs.declared.Question.the-variants.{Band as BandOf}
 use Rattle.calls.specs.declared.Question.the-variants.{Flags as FlagsOf}
-use Rattle.answers.specs.Answers.{refusalText}
+use Rattle.calls.specs.Calls.{kindName}
+use Rattle.answers.specs.Answers.{refusedText, refusalText}
 use Rattle.questions.specs.Milliseconds.{millisecondsText, allMilliseconds}
 
 -- ---- waiting times
@@ -58,30 +56,23 @@ waitText s =
 
 abbrev pub guardText : Guard → List (List ℕ)
 guardText (Band low high) = word "band" ∷ hex low ∷ hex high ∷ []
-guardText (NoGuard refusal) = refusalText refusal
+guardText NoBand = refusedText 11
 
 -- ---- the call that sends a frame
 
-abbrev pub frameName : Frame → List ℕ
-frameName Idn = word "idn"
-frameName (ProtocolSelect protocol parameters) = word "select"
-frameName (SendRecv part) = word "send"
-frameName (Idle settings) = word "idle"
-frameName Echo = word "echo"
-
 -- what the call is given stands behind code and length
 abbrev pub readingText : List ℕ → Reading → List (List ℕ)
-readingText part (Taken frame) = frameName frame ∷ hexes (rest part 2)
+readingText part (Taken frame) = kindName (frame .kind) ∷ hexes (rest part 2)
 readingText part (NoFrame refusal) = refusalText refusal
 
 -- ---- what SPI brings back
 
-abbrev pub told : Bool → List ℕ
-told true = word " yes"
-told false = word " no"
+abbrev pub yesOrNo : Bool → List ℕ
+yesOrNo true = word " yes"
+yesOrNo false = word " no"
 
 abbrev pub flagsText : Flags → List (List ℕ)
-flagsText f = word "read" ∷ told (f .read) ∷ word " send" ∷ told (f .send) ∷ []
+flagsText f = word "read" ∷ yesOrNo (f .read) ∷ word " send" ∷ yesOrNo (f .send) ∷ []
 
 -- ---- the answers, over the bytes that were given
 

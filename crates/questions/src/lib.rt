@@ -1,22 +1,19 @@
 // Questions that need no session: times, waits, bands, frames taken apart, and what SPI brings back.
-ghost use mathlib.Core.Path.{_≡_};
 ghost use mathlib.Core.List.{[], _∷_, _++_};
 ghost use Rattle.text.specs.Writing.{Puts, word};
-ghost use Rattle.calls.specs.Calls.{nameOf};
 ghost use Rattle.questions.specs.Milliseconds.{millisecondsText, allMilliseconds, ticksOf, Countable, allTicksOf, AllCountable};
-ghost use Rattle.questions.specs.Questions.{inOrder, numbers, frameName, told, questionText};
+ghost use Rattle.questions.specs.Questions.{inOrder, numbers, yesOrNo, questionText};
 
 mod milliseconds;
 
 use calls::Question;
-use model::Frame;
 use model::Guard;
 use model::Reading;
 use model::Ticks;
 use model::Times;
 use model::Timing;
 use model::Wait;
-use model::Waiting;
+use model::Waited;
 
 fn put_numbers(text: &mut [u8], at: usize, first: u32, second: u32, third: u32) -> usize
     ensures { λ r. ⌜ Puts (now (text .entry)) at (numbers (first ∷ second ∷ third ∷ [])) r (now (text .exit)) ⌝ }
@@ -77,11 +74,11 @@ fn wait(given: &[u8], text: &mut [u8]) -> usize
     ensures { λ r. ⌜ Puts (now (text .entry)) 0 (questionText Question.Wait (now (given .entry))) r (now (text .exit)) ⌝ }
 {
     match times::wait_of(settings::of_data(given)) {
-        Waiting::Known(wait) => match wait {
+        Waited::Known(wait) => match wait {
             Wait::Endless => text::put(text, 0, b"endless"),
             Wait::After(ms) => put_after(text, ms),
         },
-        Waiting::Refused(refusal) => answers::put_refusal(text, refusal),
+        Waited::Refused(refusal) => answers::put_refusal(text, refusal),
     }
 }
 
@@ -94,23 +91,7 @@ fn band(given: &[u8], text: &mut [u8]) -> usize
             let next = text::put_byte(text, next, low);
             text::put_byte(text, next, high)
         }
-        Guard::Refused(refusal) => answers::put_refusal(text, refusal),
-    }
-}
-
-// The call that sends a frame, by the number of its name.
-fn name_of(frame: Frame) -> u8
-    ensures { λ r. ⌜ nameOf r ≡ frameName frame ⌝ }
-{
-    match frame {
-        Frame::Idn => calls::IDN,
-        Frame::ProtocolSelect {
-            protocol: _,
-            parameters: _,
-        } => calls::SELECT,
-        Frame::SendRecv { data: _ } => calls::SEND,
-        Frame::Idle { settings: _ } => calls::IDLE,
-        Frame::Echo => calls::ECHO,
+        Guard::NoBand => answers::put_refused(text, 11),
     }
 }
 
@@ -120,15 +101,16 @@ fn command(given: &[u8], text: &mut [u8]) -> usize
 {
     match commands::read_command(given) {
         Reading::Taken(frame) => {
-            let next = calls::put_name(text, 0, name_of(frame));
+            let kind = frame.kind;
+            let next = calls::put_kind(text, 0, kind);
             text::put_bytes(text, next, text::after(given, 2))
         }
         Reading::Refused(refusal) => answers::put_refusal(text, refusal),
     }
 }
 
-fn put_told(text: &mut [u8], at: usize, holds: bool) -> usize
-    ensures { λ r. ⌜ Puts (now (text .entry)) at (told holds ∷ []) r (now (text .exit)) ⌝ }
+fn put_yes_or_no(text: &mut [u8], at: usize, holds: bool) -> usize
+    ensures { λ r. ⌜ Puts (now (text .entry)) at (yesOrNo holds ∷ []) r (now (text .exit)) ⌝ }
 {
     if holds {
         return text::put(text, at, b" yes");
@@ -141,9 +123,9 @@ fn flags(given: &[u8], text: &mut [u8]) -> usize
 {
     let flags = frames::spi::flags(text::at(given, 0));
     let next = text::put(text, 0, b"read");
-    let next = put_told(text, next, flags.read);
+    let next = put_yes_or_no(text, next, flags.read);
     let next = text::put(text, next, b" send");
-    put_told(text, next, flags.send)
+    put_yes_or_no(text, next, flags.send)
 }
 
 fn received(given: &[u8], text: &mut [u8]) -> usize

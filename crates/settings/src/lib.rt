@@ -1,13 +1,13 @@
 // Idle settings: the data that they are read from, the field rules, and the prescaler that WU source carries.
 ghost use mathlib.Core.Path.{_≡_};
 ghost use lib.ListN.{getD};
-ghost use Rattle.model.specs.Words.{bit};
+ghost use Rattle.words.specs.Words.{bit};
 ghost use Rattle.model.specs.Frames.{sourceAllowed, Gathers, Allows, Prescales};
 use model::Pair;
 use model::Settings;
 
 // The byte at an index, 0 for one that is missing.
-fn at(bytes: &[u8], i: usize) -> u8
+pub fn at(bytes: &[u8], i: usize) -> u8
     ensures { λ r. ⌜ r ≡ getD (now (bytes .entry)) i 0 ⌝ }
 {
     if i < bytes.len() { bytes[i] } else { 0 }

@@ -1,12 +1,14 @@
-// What the state of a session allows.
+// What the state of a session allows, and the session in another state.
 pub mod answers;
 pub mod due;
 
 ghost use mathlib.Core.Path.{_≡_};
-ghost use Rattle.model.specs.Frames.{Command};
-ghost use Rattle.model.specs.Session.{pulsed, isWaiting, isRunning, busy, isOff, protocolOf};
-ghost use Rattle.states.specs.Leave.{byState, toRequest};
+ghost use mathlib.Core.List.{[]};
+ghost use Rattle.model.specs.Frames.{command};
+ghost use Rattle.model.specs.Session.{pulsed, isWaiting, isRunning, busy, isOff, isSelected, protocolOf, unready, barred, asking};
+ghost use Rattle.states.specs.Leave.{leave};
 use model::Calibration;
+use model::Kind;
 use model::Refusal;
 use model::Session;
 use model::State;
@@ -15,6 +17,17 @@ use model::State;
 pub enum Leave {
     Given,
     Refused(Refusal),
+}
+
+// The same session in another state, with a calibration or none.
+pub fn into(s: Session, state: State, calibration: Calibration) -> Session
+    ensures { λ r. ⌜ r ≡ Rattle.model.specs.Session.into s state calibration ⌝ }
+{
+    Session {
+        state,
+        calibration,
+        ..s
+    }
 }
 
 // A pulse wakes Power-up and changes no other state.
@@ -100,49 +113,60 @@ pub(crate) fn protocol_of(state: State) -> u8
     }
 }
 
-// A command that needs no protocol, as IDN: 4, 3.
-pub fn leave_to_ask(s: Session) -> Leave
-    ensures { λ r. ⌜ r ≡ toRequest s Command.idn ⌝ }
+fn is_selected(state: State) -> bool
+    ensures { λ r. ⌜ r ≡ isSelected state ⌝ }
 {
-    if is_busy(s) {
-        return Leave::Refused(Refusal::Busy);
-    }
-    let state = s.state;
-    if is_off(state) {
-        return Leave::Refused(Refusal::Unready);
-    }
-    Leave::Given
-}
-
-// An empty exchange is for protocol 1 alone.
-fn leave_with(protocol: u8, payload: &[u8]) -> Leave
-    ensures { λ r. ⌜ r ≡ byState (State.Selected protocol) (Command.sendRecv (now (payload .entry))) ⌝ }
-{
-    if payload.len() != 0 {
-        return Leave::Given;
-    }
-    if protocol == 1 {
-        return Leave::Given;
-    }
-    Leave::Refused(Refusal::Invalid)
-}
-
-// SendRecv, which needs a protocol: 4, 3, 2.
-pub fn leave_to_exchange(s: Session, payload: &[u8]) -> Leave
-    ensures { λ r. ⌜ r ≡ toRequest s (Command.sendRecv (now (payload .entry))) ⌝ }
-{
-    if is_busy(s) {
-        return Leave::Refused(Refusal::Busy);
-    }
-    let state = s.state;
     match state {
-        State::PowerUp => Leave::Refused(Refusal::Unready),
-        State::Ready => Leave::Refused(Refusal::Unready),
-        State::Selected { protocol } => leave_with(protocol, payload),
+        State::PowerUp => false,
+        State::Ready => false,
+        State::Selected { protocol: _ } => true,
         State::Waiting {
             progress: _,
             selected: _,
-        } => Leave::Refused(Refusal::Unready),
-        State::Lost => Leave::Refused(Refusal::Unready),
+        } => false,
+        State::Lost => false,
     }
+}
+
+// Power-up or Lost, or SendRecv outside Selected.
+fn is_unready(state: State, kind: Kind) -> bool
+    ensures { λ r. ⌜ r ≡ unready state (command kind []) ⌝ }
+{
+    if is_off(state) {
+        return true;
+    }
+    if kinds::are_same(kind, Kind::SendRecv) {
+        return !is_selected(state);
+    }
+    false
+}
+
+// SendRecv without data, with another protocol than 1.
+fn is_barred(state: State, kind: Kind, payload: &[u8]) -> bool
+    ensures { λ r. ⌜ r ≡ barred state (command kind (now (payload .entry))) ⌝ }
+{
+    if payload.len() != 0 {
+        return false;
+    }
+    if kinds::are_same(kind, Kind::SendRecv) {
+        return protocol_of(state) != 1;
+    }
+    false
+}
+
+// The leave to send a command: 4, 3, 2.
+pub fn leave_for(s: Session, kind: Kind, payload: &[u8]) -> Leave
+    ensures { λ r. ⌜ r ≡ leave (asking s (command kind (now (payload .entry)))) ⌝ }
+{
+    if is_busy(s) {
+        return Leave::Refused(Refusal::Busy);
+    }
+    let state = s.state;
+    if is_unready(state, kind) {
+        return Leave::Refused(Refusal::Unready);
+    }
+    if is_barred(state, kind, payload) {
+        return Leave::Refused(Refusal::Invalid);
+    }
+    Leave::Given
 }

@@ -11,8 +11,8 @@ use lib.Ieee.Fits.{and-l, and-r}
 use lib.ListN.{length, getD, take, set, length-set}
 use lib.Seq.{length-take-le, drop-at, sets, sets-eq}
 use borrow.Author.Tests.{le-leb, lt-ltb}
-use Rattle.model.specs.Words.{Bytes, concat}
-use Rattle.model.proofs.Words.{each}
+use Rattle.words.specs.Words.{Bytes, concat}
+use Rattle.words.proofs.Words.{each}
 use Rattle.text.specs.declared.Bytes.the-variants.{Are}
 use Rattle.text.specs.Lines.{blank}
 use Rattle.text.specs.Hex.{pair, byteOf, readOn, readBytes}

@@ -12,7 +12,7 @@ use lib.ListN.{length, drop, getD, drop-of-length-le}
 use lib.Seq.{drop-cons}
 use borrow.Author.Tests.{lt-ltb, le-ltb, le-leb, lt-leb, leb-true, leb-false}
 use Rattle.io.specs.Digits.{digits, glyph, Fewest}
-use Rattle.model.specs.Words.{pick}
+use Rattle.words.specs.Words.{pick}
 use Rattle.text.specs.declared.Number.{Number}
 use Rattle.text.specs.declared.Number.the-variants.{Is, Wrong}
 use Rattle.text.specs.Lines.{fore, rest, between, skipped, wordEnd}

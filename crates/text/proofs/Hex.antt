@@ -10,8 +10,8 @@ use lib.Dec.{ltb}
 use lib.ListN.{length, drop, getD, set, length-drop, drop-of-length-le}
 use lib.Seq.{drop-cons, drop-drop, getD-drop}
 use borrow.Author.Tests.{lt-ltb, le-ltb, le-leb, lt-leb}
-use Rattle.model.specs.Words.{pick}
-use Rattle.model.specs.Contract.{Ran, Is}
+use Rattle.words.specs.Words.{pick}
+use Rattle.words.specs.Contract.{Ran, Is}
 use Rattle.text.specs.declared.Bytes.{Bytes}
 use Rattle.text.specs.declared.Bytes.the-variants.{Are, Wrong}
 use Rattle.text.specs.Lines.{blank, blanks, skipped}

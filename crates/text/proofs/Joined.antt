@@ -7,8 +7,8 @@ use mathlib.Core.List.{List, [], _∷_, _++_, append-nil, append-assoc}
 use lib.ListN.{length, take, length-append}
 use lib.Seq.{paste, take-length, take-paste, length-paste}
 use borrow.Author.Tests.{le-leb}
-use Rattle.model.specs.Words.{concat}
-use Rattle.model.specs.Contract.{Ran}
+use Rattle.words.specs.Words.{concat}
+use Rattle.words.specs.Contract.{Ran}
 use Rattle.text.specs.Writing.{placed, written}
 use Rattle.text.specs.Claims.{line, Joined}
 

@@ -11,8 +11,8 @@ use lib.Dec.{ltb, leb, eqb, eqb→eq}
 use lib.ListN.{length, take, drop, length-append}
 use lib.Seq.{take-all, length-take-le, drop-at}
 use borrow.Author.Tests.{le-leb, eqb-true, ltb-true, ltb-false}
-use Rattle.model.specs.Words.{pick, concat}
-use Rattle.model.proofs.Words.{each}
+use Rattle.words.specs.Words.{pick, concat}
+use Rattle.words.proofs.Words.{each}
 use Rattle.text.specs.declared.Number.the-variants.{Is}
 use Rattle.text.specs.Lines.{blank, blanks, wordLength, skipped, wordEnd, between}
 use Rattle.text.specs.Hex.{digit}

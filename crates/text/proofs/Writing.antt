@@ -7,8 +7,8 @@ use mathlib.Core.List.{List, [], _∷_, _++_}
 use lib.ListN.{length, drop, getD, drop-of-length-le}
 use lib.Seq.{drop-cons}
 use borrow.Author.Tests.{le-leb, lt-leb}
-use Rattle.model.specs.Words.{pasted}
-use Rattle.model.specs.Contract.{Is}
+use Rattle.words.specs.Words.{pasted}
+use Rattle.words.specs.Contract.{Is}
 use Rattle.buffers.proofs.Pasting.{fits}
 use Rattle.text.specs.Hex.{glyph}
 use Rattle.text.specs.Decimal.{decimal}

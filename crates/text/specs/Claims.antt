@@ -4,8 +4,8 @@ use Prim.Native.Nat.{ℕ, _+_, _*_, _^_, _≤_, _<_}
 use mathlib.Core.Path.{_≡_}
 use mathlib.Core.List.{List, _++_}
 use lib.ListN.{length, drop}
-use Rattle.model.specs.Words.{Bytes, concat}
-use Rattle.model.specs.Contract.{Ran}
+use Rattle.words.specs.Words.{Bytes, concat}
+use Rattle.words.specs.Contract.{Ran}
 use Rattle.text.specs.declared.Bytes.the-variants.{Are}
 use Rattle.text.specs.declared.Number.the-variants.{Is}
 use Rattle.text.specs.Lines.{fore}

@@ -5,8 +5,8 @@ use mathlib.Core.Bool.{Bool, false}
 use mathlib.Core.List.{List, [], _∷_}
 use lib.Dec.{ltb, leb}
 use lib.ListN.{length, set}
-use Rattle.model.specs.Words.{pick}
-use Rattle.model.specs.Contract.{Ran}
+use Rattle.words.specs.Words.{pick}
+use Rattle.words.specs.Contract.{Ran}
 use Rattle.text.specs.declared.Bytes.{Bytes}
 use Rattle.text.specs.declared.Bytes.the-variants.{Are, Wrong}
 use Rattle.text.specs.Lines.{rest, blank}

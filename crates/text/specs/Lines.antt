@@ -5,7 +5,7 @@ use mathlib.Core.Bool.{Bool, true, false}
 use mathlib.Core.List.{List, [], _∷_}
 use lib.Dec.{eqb}
 use lib.ListN.{take, drop, getD}
-use Rattle.model.specs.Words.{pick}
+use Rattle.words.specs.Words.{pick}
 
 -- the first n bytes, or all where there are fewer
 abbrev pub fore : List ℕ → ℕ → List ℕ

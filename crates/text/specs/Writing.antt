@@ -7,8 +7,8 @@ use mathlib.Core.List.{List, [], _∷_}
 use lib.Dec.{leb}
 use lib.ListN.{length}
 use lib.Seq.{paste}
-use Rattle.model.specs.Words.{pick}
-use Rattle.model.specs.Contract.{Ran, Is}
+use Rattle.words.specs.Words.{pick}
+use Rattle.words.specs.Contract.{Ran, Is}
 use Rattle.text.specs.Hex.{pair}
 use Rattle.text.specs.Decimal.{decimal}
 

@@ -4,7 +4,7 @@ ghost use mathlib.Core.Bool.{true};
 ghost use mathlib.Core.List.{[], _∷_};
 ghost use Prim.Native.Nat.{_≤_, _<_};
 ghost use lib.ListN.{length};
-ghost use Rattle.model.specs.Contract.{Is};
+ghost use Rattle.words.specs.Contract.{Is};
 ghost use Rattle.text.specs.Lines.{fore, rest, byteAt, blank, skipped, wordEnd, same, isWord};
 ghost use Rattle.text.specs.Hex.{byteOf, readBytes};
 ghost use Rattle.text.specs.Hex.{glyph as Hex·glyph};

@@ -9,7 +9,7 @@ use model::Ticks;
 use model::Times;
 use model::Timing;
 use model::Wait;
-use model::Waiting;
+use model::Waited;
 
 // A tick in milliseconds.
 const TICK: f32 = 0.03125;
@@ -73,15 +73,15 @@ pub fn times_of(s: Settings) -> Timing
 }
 
 // Without end where bit 0 of WU source is clear.
-pub fn wait_of(s: Settings) -> Waiting
+pub fn wait_of(s: Settings) -> Waited
     ensures { λ r. ⌜ Waits s r ⌝ }
 {
     if settings::is_allowed(s) {} else {
-        return Waiting::Refused(Refusal::Invalid);
+        return Waited::Refused(Refusal::Invalid);
     }
     if s.source % 2 == 0 {
-        return Waiting::Known(Wait::Endless);
+        return Waited::Known(Wait::Endless);
     }
     let known = times(s);
-    Waiting::Known(Wait::After(known.timeout))
+    Waited::Known(Wait::After(known.timeout))
 }

@@ -1,14 +1,10 @@
 -- `acts::act` meets its contract: each act is its call of the session.
 -- Assumes nothing.
 use borrow.Author.Needs.{needs}
-use mathlib.Core.Path.{ap, ap₂}
+use mathlib.Core.Path.{ap}
 use denote.Ref.{now}
-use Prim.Native.Nat.{ℕ}
-use mathlib.Core.List.{List}
 use Rattle.model.specs.declared.Plan.{Plan}
-use Rattle.model.specs.declared.Settings.{Settings}
-use Rattle.model.specs.Frames.{protocolSelect, idle}
-use Rattle.model.specs.Session.{power-on, request, calibrate}
+use Rattle.model.specs.Session.{power-on, calibrate}
 use Rattle.acts.proofs.Making.{by-name, by-call, kept}
 use Rattle.acts.proofs.act.Statement.{statement}
 use Rattle.acts.proofs.act.Tie as tie
@@ -29,80 +25,46 @@ returns-2 c =
 returns-3 : tie.Need-returns-3
 returns-3 c =
     let called = c .before .before in
-    let told = called .before .before in
+    let told = called .before .before .before in
     let a = told .before .before .before .before .args in
-    by-name (a .s) (a .number) (now (a .given)) (now (a .out)) (told .enum-told3 .given .1) (called .idn .ensures)
+    by-name (a .s) (a .number) (now (a .given)) (now (a .out)) {r = called .request .result} {exit = called .request .last .1 .1 .1 .0} (told .what .given .1) (called .request .ensures)
 
 returns-4 : tie.Need-returns-4
 returns-4 c =
     let called = c .before .before in
-    let taken = called .before .before in
-    let told = taken .before .before in
+    let told = called .before .before in
     let a = told .before .before .before .before .args in
-    by-name (a .s) (a .number) (now (a .given)) (now (a .out)) (told .enum-told4 .given .1)
-    (by-call (a .s)
-    (ap₂ (λ (p : ℕ) (xs : List ℕ). request (protocolSelect p xs) (now (a .out))) (taken .before .at .ensures) (taken .after .ensures))
-    (called .protocol-select .ensures))
+    by-name (a .s) (a .number) (now (a .given)) (now (a .out)) (told .enum-told3 .given .1) (called .reset .ensures)
 
 returns-5 : tie.Need-returns-5
 returns-5 c =
     let called = c .before .before in
     let told = called .before .before in
     let a = told .before .before .before .before .args in
-    by-name (a .s) (a .number) (now (a .given)) (now (a .out)) (told .enum-told5 .given .1) (called .send-recv .ensures)
+    by-name (a .s) (a .number) (now (a .given)) (now (a .out)) {r = called .poll .result} {exit = called .poll .last .1 .0} (told .enum-told4 .given .1) (called .poll .ensures)
 
 returns-6 : tie.Need-returns-6
 returns-6 c =
     let called = c .before .before in
-    let read = called .before .before in
-    let told = read .before in
+    let told = called .before .before in
     let a = told .before .before .before .before .args in
-    by-name (a .s) (a .number) (now (a .given)) (now (a .out)) (told .enum-told6 .given .1)
-    (by-call (a .s) (ap (λ (s : Settings). request (idle s) (now (a .out))) (read .of-data .ensures)) (called .idle .ensures))
+    by-name (a .s) (a .number) (now (a .given)) (now (a .out)) {r = called .read .result} {exit = called .read .last .1 .1 .0} (told .enum-told5 .given .1) (called .read .ensures)
 
 returns-7 : tie.Need-returns-7
 returns-7 c =
     let called = c .before .before in
-    let told = called .before .before in
+    let planned = called .before .before in
+    let told = planned .before in
     let a = told .before .before .before .before .args in
-    by-name (a .s) (a .number) (now (a .given)) (now (a .out)) (told .enum-told7 .given .1) (called .echo .ensures)
+    by-name (a .s) (a .number) (now (a .given)) (now (a .out)) (told .enum-told6 .given .1)
+    (by-call (a .s) (ap (λ (p : Plan). calibrate p (now (a .out))) (planned .plan .ensures)) (called .calibrate .ensures))
 
 returns-8 : tie.Need-returns-8
 returns-8 c =
     let called = c .before .before in
     let told = called .before .before in
     let a = told .before .before .before .before .args in
-    by-name (a .s) (a .number) (now (a .given)) (now (a .out)) (told .enum-told8 .given .1) (called .reset .ensures)
-
-returns-9 : tie.Need-returns-9
-returns-9 c =
-    let called = c .before .before in
-    let told = called .before .before in
-    let a = told .before .before .before .before .args in
-    by-name (a .s) (a .number) (now (a .given)) (now (a .out)) (told .enum-told9 .given .1) (called .poll .ensures)
-
-returns-10 : tie.Need-returns-10
-returns-10 c =
-    let called = c .before .before in
-    let told = called .before .before in
-    let a = told .before .before .before .before .args in
-    by-name (a .s) (a .number) (now (a .given)) (now (a .out)) (told .enum-told10 .given .1) (called .read .ensures)
-
-returns-11 : tie.Need-returns-11
-returns-11 c =
-    let called = c .before .before in
-    let planned = called .before .before in
-    let told = planned .before in
-    let a = told .before .before .before .before .args in
-    by-name (a .s) (a .number) (now (a .given)) (now (a .out)) (told .enum-told11 .given .1)
-    (by-call (a .s) (ap (λ (p : Plan). calibrate p (now (a .out))) (planned .plan .ensures)) (called .calibrate .ensures))
-
-returns-12 : tie.Need-returns-12
-returns-12 c =
-    let called = c .before .before in
-    let told = called .before .before in
-    let a = told .before .before .before .before .args in
-    by-name (a .s) (a .number) (now (a .given)) (now (a .out)) (told .enum-told12 .given .1) (called .calibrate-next .ensures)
+    by-name (a .s) (a .number) (now (a .given)) (now (a .out)) (told .enum-told7 .given .1) (called .calibrate-next .ensures)
 
 pub act-spec : {M : Type 1} → statement M
 act-spec =
@@ -112,17 +74,6 @@ act-spec =
     (λ c κs. search needs)
     (λ c κs. search needs)
     (λ c. search needs)
-    (λ c κs. search needs)
-    (λ c. search needs)
-    (λ c κs. search needs)
-    (λ c. search needs)
-    (λ c κs. search needs)
-    (λ c κs. search needs)
-    (λ c κs. search needs)
-    (λ c. search needs)
-    (λ c κs. search needs)
-    (λ c. search needs)
-    (λ c κs. search needs)
     (λ c κs. search needs)
     (λ c. search needs)
     (λ c κs. search needs)
@@ -150,12 +101,4 @@ act-spec =
     (λ c. search needs)
     returns-7
     (λ c. search needs)
-    returns-8
-    (λ c. search needs)
-    returns-9
-    (λ c. search needs)
-    returns-10
-    (λ c. search needs)
-    returns-11
-    (λ c. search needs)
-    returns-12)
+    returns-8)

@@ -14,7 +14,7 @@ returns : tie.Need-returns
 returns c =
     let called = c .before .before in
     let a = called .before .before .before .before .before .args in
-    on-front (a .n) (now (a .room)) (λ (front : List ℕ). step (a .s) (feed (now (a .piece)) front)) (called .feed .ensures)
+    on-front (a .n) (now (a .room)) (λ (front : List ℕ). step (a .s) (feed (now (a .piece)) front)) {part = called .feed .last .1 .1 .0} {r = called .feed .result} (called .feed .ensures)
 
 returns-2 : tie.Need-returns-2
 returns-2 c =

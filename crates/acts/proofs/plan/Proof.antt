@@ -1,6 +1,7 @@
 -- `acts::plan` meets its contract: each field is the byte at its place.
 -- Assumes nothing.
 use borrow.Author.Needs.{needs}
+use mathlib.Core.Path.{refl}
 use Rattle.acts.proofs.plan.Statement.{statement}
 use Rattle.acts.proofs.plan.Tie as tie
 
@@ -15,7 +16,7 @@ returns c =
     let d3 = d4 .before in
     let d2 = d3 .before in
     let d1 = d2 .before in
-    simp (c .at10 .ensures, d9 .at9 .ensures, d8 .at8 .ensures, d7 .at7 .ensures, d6 .at6 .ensures, d5 .at5 .ensures, d4 .at4 .ensures, d3 .at3 .ensures, d2 .at2 .ensures, d1 .at .ensures)
+    simp (c .at10 .ensures, d9 .at9 .ensures, d8 .at8 .ensures, d7 .at7 .ensures, d6 .at6 .ensures, d5 .at5 .ensures, d4 .at4 .ensures, d3 .at3 .ensures, d2 .at2 .ensures, d1 .at .ensures) refl
 
 pub plan-spec : {M : Type 1} → statement M
 plan-spec =

@@ -1,6 +1,7 @@
 -- `answers::number_of` meets its contract.
 -- Assumes nothing.
 use borrow.Author.Needs.{needs}
+use mathlib.Core.Path.{refl}
 use Rattle.answers.proofs.number_of.Statement.{statement}
 use Rattle.answers.proofs.number_of.Tie as tie
 
@@ -19,16 +20,14 @@ number-of-spec =
     (λ c. search needs)
     (λ c. search needs)
     (λ c. search needs)
-    (λ c. search needs)
-    (λ c. simp (c .enum-told .given .1))
-    (λ c. simp (c .enum-told2 .given .1))
-    (λ c. simp (c .enum-told3 .given .1))
-    (λ c. simp (c .enum-told4 .given .1))
-    (λ c. simp (c .enum-told5 .given .1))
-    (λ c. simp (c .enum-told6 .given .1))
-    (λ c. simp (c .enum-told7 .given .1))
-    (λ c. simp (c .enum-told8 .given .1))
-    (λ c. simp (c .enum-told9 .given .1))
-    (λ c. simp (c .enum-told10 .given .1))
-    (λ c. simp (c .enum-told11 .given .1))
-    (λ c. simp (c .enum-told12 .given .1)))
+    (λ c. simp (c .enum-told .given .1) refl)
+    (λ c. simp (c .enum-told2 .given .1) refl)
+    (λ c. simp (c .enum-told3 .given .1) refl)
+    (λ c. simp (c .enum-told4 .given .1) refl)
+    (λ c. simp (c .enum-told5 .given .1) refl)
+    (λ c. simp (c .enum-told6 .given .1) refl)
+    (λ c. simp (c .enum-told7 .given .1) refl)
+    (λ c. simp (c .enum-told8 .given .1) refl)
+    (λ c. simp (c .enum-told9 .given .1) refl)
+    (λ c. simp (c .enum-told10 .given .1) refl)
+    (λ c. simp (c .enum-told11 .given .1) refl))

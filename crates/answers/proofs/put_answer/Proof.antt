@@ -26,10 +26,13 @@ returns-4 : tie.Need-returns-4
 returns-4 c = let put = c .before .before in simp (put .before .before .before .enum-told3 .given .1) (put .put3 .ensures)
 
 returns-5 : tie.Need-returns-5
-returns-5 c = let put = c .before .before in simp (put .before .before .before .answer2 .given .1) (put .put-reference .ensures)
+returns-5 c = let put = c .before .before in simp (put .before .before .before .answer2 .given .1) (put .put-woken .ensures)
 
 returns-6 : tie.Need-returns-6
-returns-6 c = let put = c .before .before in simp (put .before .before .before .answer3 .given .1) (put .put-refusal .ensures)
+returns-6 c = let put = c .before .before in simp (put .before .before .before .answer3 .given .1) (put .put-reference .ensures)
+
+returns-7 : tie.Need-returns-7
+returns-7 c = let put = c .before .before in simp (put .before .before .before .answer4 .given .1) (put .put-refusal .ensures)
 
 pub put-answer-spec : {M : Type 1} → statement M
 put-answer-spec =
@@ -52,6 +55,8 @@ put-answer-spec =
     (λ c. search needs)
     (λ c κs. search needs)
     (λ c. search needs)
+    (λ c κs. search needs)
+    (λ c. search needs)
     returns
     (λ c. search needs)
     returns-2
@@ -62,4 +67,6 @@ put-answer-spec =
     (λ c. search needs)
     returns-5
     (λ c. search needs)
-    returns-6)
+    returns-6
+    (λ c. search needs)
+    returns-7)

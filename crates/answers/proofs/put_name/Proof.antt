@@ -1,10 +1,7 @@
 -- `answers::put_name` meets its contract.
 -- Assumes nothing.
 use borrow.Author.Needs.{needs}
-use Prim.Native.Nat.{ℕ}
-use mathlib.Core.Path.{sym}
-use mathlib.Core.List.{List, [], _∷_}
-use Rattle.text.proofs.Writing.{_then_, by}
+use Rattle.text.proofs.Writing.{_then_}
 use Rattle.answers.proofs.put_name.Statement.{statement}
 use Rattle.answers.proofs.put_name.Tie as tie
 
@@ -20,10 +17,8 @@ returns-3 c = let put = c .before .before in simp (put .before .before .before .
 returns-4 : tie.Need-returns-4
 returns-4 c =
     let last = c .before .before in
-    let named = last .before in
-    let first = named .before .before .before .before in
-    simp (first .before .before .before .before .state2 .given .1)
-    (first .put3 .ensures then by (λ (name : List ℕ). name ∷ []) (sym (named .name-of .ensures)) (last .put-name .ensures))
+    let first = last .before .before .before .before in
+    simp (first .before .before .before .before .before .state2 .given .1) (first .put3 .ensures then last .put-kind .ensures)
 
 returns-5 : tie.Need-returns-5
 returns-5 c = let put = c .before .before in simp (put .before .before .before .enum-told3 .given .1) (put .put4 .ensures)
@@ -44,7 +39,6 @@ put-name-spec =
     (λ c κs. search needs)
     (λ c. search needs)
     (λ c. search needs)
-    (λ c κs. search needs)
     (λ c κs. search needs)
     (λ c κs. search needs)
     (λ c. search needs)

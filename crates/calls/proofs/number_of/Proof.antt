@@ -8,7 +8,8 @@ use mathlib.Core.List.{List}
 use denote.Ref.{now}
 use lib.ListN.{drop}
 use Rattle.text.specs.Lines.{between, same}
-use Rattle.calls.specs.declared.Call.the-variants.{Helps}
+use Rattle.calls.specs.declared.Verb.the-variants.{Helps}
+use Rattle.calls.specs.declared.Shape.the-variants.{Nothing}
 use Rattle.calls.specs.Calls.{Row, row, rows, nameOf, position}
 use Rattle.calls.proofs.Names.{named, found, further, nowhere}
 use Rattle.calls.proofs.number_of.Statement.{statement}
@@ -30,7 +31,7 @@ loop c = c .before .before .before .before
 
 -- behind the last row
 abbrev none : Row
-none = row "" Helps
+none = row "" Helps Nothing
 
 -- it is compared with the name of k
 compared : (c : tie.After-is-word Inv-loop μ-loop) → c .is-word .result ≡ same (sought (loop c)) (nameOf (loop c .loop .k))

@@ -2,7 +2,7 @@
 -- Assumes nothing.
 use borrow.Author.Needs.{needs}
 use denote.Ref.{now}
-use Rattle.model.specs.Contract.{Ran}
+use Rattle.words.specs.Contract.{Ran}
 use Rattle.model.specs.declared.Outcome.{Outcome}
 use Rattle.text.proofs.Writing.{_then_}
 use Rattle.desk.specs.Desk.{feeding, feedTold}

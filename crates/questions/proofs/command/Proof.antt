@@ -2,9 +2,10 @@
 -- Assumes nothing.
 use borrow.Author.Needs.{needs}
 use Prim.Native.Nat.{ℕ}
-use mathlib.Core.Path.{sym, _∙_}
-use mathlib.Core.List.{List, [], _∷_}
+use mathlib.Core.Path.{_≡_, sym, _∙_}
+use mathlib.Core.List.{List}
 use denote.Ref.{now}
+use Rattle.text.specs.Lines.{rest}
 use Rattle.text.specs.Writing.{hexes}
 use Rattle.text.proofs.Writing.{_then_, by}
 use Rattle.questions.specs.Questions.{readingText}
@@ -20,11 +21,11 @@ returns c =
     let last = c .before .before in
     let part = last .before in
     let put = part .before .before .before .before in
-    let name = put .before in
-    let taken = name .before .before .before in
+    let taken = put .before .before .before in
     let read = taken .before .before in
+    let behind : now (part .after .result) ≡ rest (bytes read) 2 = part .after .ensures in
     by (readingText (bytes read)) (sym (read .read-command .ensures) ∙ taken .frame .given .1)
-    (by (λ (l : List ℕ). l ∷ []) (sym (name .name-of .ensures)) (put .put-name .ensures) then by hexes (sym (part .after .ensures)) (last .put-bytes .ensures))
+    (put .put-kind .ensures then by hexes (sym behind) (last .put-bytes .ensures))
 
 returns-2 : tie.Need-returns-2
 returns-2 c =
@@ -39,7 +40,6 @@ command-spec =
     (tie.spec
     (λ c κs. search needs)
     (λ c. search needs)
-    (λ c κs. search needs)
     (λ c κs. search needs)
     (λ c κs. search needs)
     (λ c κs. search needs)

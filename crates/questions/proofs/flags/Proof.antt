@@ -16,7 +16,7 @@ returns c =
     let read = reads .before .before .before .before in
     let known = read .before .before .before in
     by flagsText (sym (known .flags .ensures ∙ ap flags (known .before .at .ensures)))
-    (read .put .ensures then reads .put-told .ensures then send .put2 .ensures then sends .put-told2 .ensures)
+    (read .put .ensures then reads .put-yes-or-no .ensures then send .put2 .ensures then sends .put-yes-or-no2 .ensures)
 
 pub flags-spec : {M : Type 1} → statement M
 flags-spec =

@@ -7,7 +7,7 @@ use mathlib.Core.Path.{_≡_, sym, subst, _∙_}
 use mathlib.Core.List.{List}
 use denote.Ref.{now}
 use Rattle.model.specs.declared.Timing.{Timing}
-use Rattle.model.specs.Words.{Bytes}
+use Rattle.words.specs.Words.{Bytes}
 use Rattle.model.specs.Frames.{settings, idleData}
 use Rattle.text.specs.Writing.{Puts}
 use Rattle.text.proofs.Writing.{_then_}

@@ -6,8 +6,8 @@ use Prim.Native.Nat.{ℕ}
 use mathlib.Core.Path.{_≡_, sym, ap, subst, _∙_}
 use mathlib.Core.List.{List}
 use denote.Ref.{now}
-use Rattle.model.specs.declared.Waiting.{Waiting}
-use Rattle.model.specs.Words.{Bytes}
+use Rattle.model.specs.declared.Waited.{Waited}
+use Rattle.words.specs.Words.{Bytes}
 use Rattle.model.specs.Frames.{settings, idleData}
 use Rattle.text.specs.Writing.{Puts}
 use Rattle.questions.specs.Questions.{waitText}
@@ -18,7 +18,7 @@ use Rattle.questions.proofs.wait.Tie as tie
 bytes : (c : tie.After-of-data) → Bytes (idleData (c .of-data .result))
 bytes c = omega (arith, c .of-data .ok)
 
-puts : (c : tie.After-wait-of) {told : Waiting} {text exit : List ℕ} {at r : ℕ} → c .wait-of .result ≡ told
+puts : (c : tie.After-wait-of) {told : Waited} {text exit : List ℕ} {at r : ℕ} → c .wait-of .result ≡ told
     → Puts text at (waitingText told) r exit → Puts text at (waitText (settings (now (c .before .before .before .before .args .given)))) r exit
 puts c =
     let gathered = c .before in
@@ -29,7 +29,7 @@ put-after-requires c κs =
     let after = c .before .before in
     let known = after .before .before .before in
     let called = known .before .before in
-    subst WaitingFits (sym (called .wait-of .ensures) ∙ known .wait .given .1 ∙ ap Waiting.Known (after .wait2 .given .1))
+    subst WaitingFits (sym (called .wait-of .ensures) ∙ known .wait .given .1 ∙ ap Waited.Known (after .wait2 .given .1))
     (waiting-fits (called .before .of-data .result) (bytes (called .before)))
 
 returns : tie.Need-returns
@@ -37,14 +37,14 @@ returns c =
     let put = c .before .before in
     let endless = put .before .before .before in
     let known = endless .before .before .before in
-    puts (known .before .before) (known .wait .given .1 ∙ ap Waiting.Known (endless .enum-told .given .1)) (put .put .ensures)
+    puts (known .before .before) (known .wait .given .1 ∙ ap Waited.Known (endless .enum-told .given .1)) (put .put .ensures)
 
 returns-2 : tie.Need-returns-2
 returns-2 c =
     let put = c .before .before in
     let after = put .before .before .before in
     let known = after .before .before .before in
-    puts (known .before .before) (known .wait .given .1 ∙ ap Waiting.Known (after .wait2 .given .1)) (put .put-after .ensures)
+    puts (known .before .before) (known .wait .given .1 ∙ ap Waited.Known (after .wait2 .given .1)) (put .put-after .ensures)
 
 returns-3 : tie.Need-returns-3
 returns-3 c =

@@ -5,7 +5,7 @@ use Prim.Native.Nat.{ℕ, _-_}
 use mathlib.Core.Path.{_≡_, refl, subst, _∙_}
 use denote.Ref.{now}
 use lib.ListN.{length, drop}
-use Rattle.model.specs.Contract.{Ran, Is}
+use Rattle.words.specs.Contract.{Ran, Is}
 use Rattle.text.specs.Writing.{written, hexes}
 use Rattle.text.proofs.Writing.{puts-on, puts-done}
 use Rattle.text.proofs.put_bytes.Statement.{statement}

@@ -6,7 +6,7 @@ use native.Mathlib.Nat.{mul-one}
 use native.Mathlib.Omega.{arith}
 use mathlib.Core.Path.{_≡_, refl, sym, ap, _∙_, subst}
 use lib.Ieee.{Float, ofBits}
-use Rattle.model.specs.Words.{Bytes}
+use Rattle.words.specs.Words.{Bytes}
 use Rattle.model.specs.Frames.{idleData}
 use Rattle.model.specs.Times.{tL, tREF, tINACTIVE, tTO, tOSC, tDAC, milliseconds, exactly}
 use Rattle.model.proofs.Exactness.{exact}

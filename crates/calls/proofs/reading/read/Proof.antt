@@ -17,7 +17,7 @@ returns c =
     let skips = ends .before in
     let a = skips .before .before .before .args in
     by-name (now (a .line)) (now (a .bytes)) (skips .skip .ensures) (ends .word-end .ensures) (number .number-of .ensures) (omega (arith, call .before .if1 .taken))
-    (call .call-of .ensures) (shape .takes .ensures) (taken .take .ensures)
+    (call .call-of .ensures) (shape .shape-of .ensures) (taken .take .ensures)
 
 returns-2 : tie.Need-returns-2
 returns-2 c =

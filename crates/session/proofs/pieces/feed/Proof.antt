@@ -5,34 +5,24 @@ use Prim.Native.Nat.{ℕ}
 use mathlib.Core.Path.{_≡_, refl, sym, ap, _∙_, subst}
 use mathlib.Core.List.{List}
 use denote.Ref.{now}
-use Rattle.model.specs.declared.Progress.{Progress}
-use Rattle.model.specs.declared.Fed.{Fed}
 use Rattle.model.specs.declared.State.{State}
 use Rattle.model.specs.declared.State.the-variants.{PowerUp, Ready, Selected, Waiting, Lost}
-use Rattle.model.specs.declared.Session.{Session}
 use Rattle.model.specs.declared.Outcome.{Outcome}
-use Rattle.model.specs.Contract.{Ran, Is}
-use Rattle.model.specs.Replies.{Feeds}
-use Rattle.model.specs.Session.{takenBy, taken, pieceBy, fed}
-use Rattle.session.proofs.Calls.{fed-none, fed-some}
+use Rattle.words.specs.Contract.{Ran, Is}
+use Rattle.model.specs.Session.{Call, Meets}
+use Rattle.session.proofs.Calls.{byState, fed-none, fed-some, reads}
 use Rattle.session.proofs.pieces.feed.Statement.{statement}
 use Rattle.session.proofs.pieces.feed.Tie as tie
 
 -- the state, and what is done about it
 by-state : (c : tie.Else1) (state : State) {r : Outcome} {exit : List ℕ} → c .before .before .before .args .s .state ≡ state
-    → Is (pieceBy state (c .before .before .before .args .s) (now (c .before .before .before .args .piece)) (now (c .before .before .before .args .room))) r exit
-    → Is (fed (c .before .before .before .args .s) (now (c .before .before .before .args .piece)) (now (c .before .before .before .args .room))) r exit
+    → Is (byState (c .before .before .before .args .s) (now (c .before .before .before .args .room)) state (now (c .before .before .before .args .piece))) r exit
+    → Meets (c .before .before .before .args .s) (Call.feed (now (c .before .before .before .args .piece)) (now (c .before .before .before .args .room))) r exit
 by-state c state {r} {exit} e done =
     let a = c .before .before .before .args in
     subst (λ (m : Ran Outcome). Is m r exit)
-    (ap (λ (z : State). pieceBy z (a .s) (now (a .piece)) (now (a .room))) (sym e) ∙ fed-some (a .s) (now (a .room)) (now (a .piece)) (c .if1 .left))
+    (ap (λ (z : State). byState (a .s) (now (a .room)) z (now (a .piece))) (sym e) ∙ fed-some (a .s) (now (a .room)) (now (a .piece)) (c .if1 .left))
     done
-
--- what was read, and what it does
-reads : (s : Session) (p : Progress) (selected : ℕ) (piece room : List ℕ) (f : Fed) {r : Outcome} {exit : List ℕ}
-    → r ≡ takenBy (f .verdict) f s (p .awaited) selected piece → Feeds p piece room f exit → Is (taken s p selected piece room) r exit
-reads s p selected piece room f e done =
-    record { answer = e ∙ ap (λ (z : Fed). takenBy (z .verdict) z s (p .awaited) selected piece) (done .answer); bytes = done .bytes }
 
 returns : tie.Need-returns
 returns c =
@@ -59,11 +49,11 @@ returns-4 c =
 returns-5 : tie.Need-returns-5
 returns-5 c =
     let d = c .before .before .before in
-    let told = d .before .before .before in
+    let told = d .before .before .before .before in
     let e = told .before .before in
     let a = e .before .before .before .args in
     by-state e (Waiting _ _) (told .state .given .1)
-    (reads (a .s) _ _ (now (a .piece)) (now (a .room)) (d .feed .result) (c .taken .ensures) (d .feed .ensures))
+    (reads (a .s) (now (a .room)) _ _ (now (a .piece)) (d .feed .result) (e .if1 .left) (c .outcome-of .ensures) (d .feed .ensures))
 
 returns-6 : tie.Need-returns-6
 returns-6 c =

@@ -1,0 +1,18 @@
+-- `kinds::kind_of` meets its contract: an arm a code, and no other.
+-- Assumes nothing.
+use mathlib.Core.Path.{refl}
+use Rattle.model.specs.Frames.{kinds}
+use Rattle.kinds.proofs.Codes.{none}
+use Rattle.kinds.proofs.kind_of.Statement.{statement}
+use Rattle.kinds.proofs.kind_of.Tie as tie
+
+pub kind-of-spec : {M : Type 1} → statement M
+kind-of-spec =
+    tie.close
+    (tie.spec
+    (λ c. simp (c .match .keys1) refl)
+    (λ c. simp (c .match .keys2) refl)
+    (λ c. simp (c .match .keys3) refl)
+    (λ c. simp (c .match .keys4) refl)
+    (λ c. simp (c .match .keys5) refl)
+    (λ c. none (c .before .args .code) (Unit {0}) kinds (c .match .rest)))

@@ -1,0 +1,56 @@
+-- Laws of the common words: how a choice is taken apart, the elements of a list by their indices, and a rule of every byte by one computed test.
+-- Assumes nothing.
+use Prim.Native.Nat.{ℕ, zero, suc, _+_, _<_}
+use native.Mathlib.Nat.{not-suc-le-zero, eq-or-lt-of-le, le-of-suc-le-suc}
+use native.Mathlib.Omega.{arith}
+use mathlib.Core.Path.{_≡_, refl, sym, ap, _∙_, subst}
+use mathlib.Core.Bool.{Bool, true, false, _&&_, Bool·beq}
+use mathlib.Core.Logic.{inl, inr}
+use mathlib.Core.List.{List, [], _∷_}
+use lib.Dec.{T}
+use lib.Ieee.Fits.{and-l, and-r}
+use lib.ListN.{length, getD, drop, drop-of-length-le}
+use lib.Seq.{drop-cons}
+use borrow.Author.Tests.{lt-ltb, le-ltb, le-leb, lt-leb, eq-eqb, ne-eqb}
+use Rattle.words.specs.Words.{pick}
+
+-- what holds of either choice, given its test, holds of the choice
+pub ways : {A : Type 0} (P : A → Type 0) (b : Bool) {x y : A} → (b ≡ true → P x) → (b ≡ false → P y) → P (pick b x y)
+ways P true h k = h refl
+ways P false h k = k refl
+
+-- n elements from index i on
+abbrev pub elements : ℕ → ℕ → List ℕ → List ℕ
+elements zero i xs = []
+elements (suc n) i xs = getD xs i 0 ∷ elements n (suc i) xs
+
+pub elements-all : (n i : ℕ) (xs : List ℕ) → length xs ≡ i + n → elements n i xs ≡ drop i xs
+elements-all zero i xs e = sym (drop-of-length-le xs {i = i} (omega arith))
+elements-all (suc n) i xs e = ap (λ (l : List ℕ). getD xs i 0 ∷ l) (elements-all n (suc i) xs (omega arith)) ∙ sym (drop-cons xs i 0 (omega arith))
+
+-- a test of every number below n
+abbrev pub all : (ℕ → Bool) → ℕ → Bool
+all f zero = true
+all f (suc n) = f n && all f n
+
+-- what the test finds of all holds of each
+pub each : (f : ℕ → Bool) (n : ℕ) → T (all f n) → (k : ℕ) → k < n → T (f k)
+each f zero t k h = absurd (not-suc-le-zero h)
+each f (suc n) t k h =
+    elim (eq-or-lt-of-le (le-of-suc-le-suc h)) [
+      | inl e ↦ subst (λ (z : ℕ). T (f z)) (sym e) (and-l (f n) (all f n) t)
+      | inr l ↦ each f n (and-r (f n) (all f n) t) k l
+    ]
+
+same : (a b : Bool) → T (Bool·beq a b) → a ≡ b
+same true true t = refl
+same true false t = absurd t
+same false true t = absurd t
+same false false t = refl
+
+-- two tests that agree on every byte are one
+pub same-on-bytes : (f g : ℕ → Bool) → T (all (λ (w : ℕ). Bool·beq (f w) (g w)) 256) → (w : ℕ) → w < 256 → f w ≡ g w
+same-on-bytes f g t w h = same (f w) (g w) (each (λ (k : ℕ). Bool·beq (f k) (g k)) 256 t w h)
+
+-- what a test that held or failed says of the function that the model tests by
+pub ruleset cases = (lt-ltb, le-ltb, le-leb, lt-leb, eq-eqb, ne-eqb)
