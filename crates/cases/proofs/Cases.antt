@@ -8,7 +8,7 @@ use Rattle.cases.specs.Starred.{Starred}
 use Rattle.cases.specs.Replies.{Codes, Good-replies, Bad-replies, Pieces, Places}
 use Rattle.cases.specs.Sessions.{Changes, Requests, Feeds, Calibrations, Selecting, Pulses, Given}
 use Rattle.cases.specs.Published.{Frames, Read, Refused, Transfers, Outputs, Received, Prescalers, Waits, Numbers, Values, Reported, Mild}
-use Rattle.cases.specs.Copying.{Widest, Wider, Bits, Parts, Copies, Joined}
+use Rattle.cases.specs.Copying.{Widest, Wider, Bits, Parts, Copies, Lays, Joined}
 
 pub starred : Starred
 unfolding tL tREF tINACTIVE tTO tOSC tDAC milliseconds round ofBits ofInt
@@ -151,6 +151,9 @@ parts = refl
 
 pub copies : Copies
 copies = refl
+
+pub lays : Lays
+lays = refl
 
 pub joined : Joined
 joined = refl

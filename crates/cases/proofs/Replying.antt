@@ -18,6 +18,7 @@ bytes =
       behind-80 = refl;
       behind-a-code = refl;
       events = refl;
+      wakes = refl;
       sourceless = refl;
       sourceless-error = refl;
     }

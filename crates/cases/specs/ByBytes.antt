@@ -7,7 +7,8 @@ use mathlib.Core.List.{List, [], _∷_, _++_, map}
 use Rattle.model.specs.declared.Awaited.{Awaited}
 use Rattle.model.specs.declared.End.the-variants.{Good, Woken, Error}
 use Rattle.model.specs.declared.Verdict.the-variants.{More}
-use Rattle.model.specs.Replies.{Reply, meaning, reply}
+use Rattle.model.specs.declared.Wake.the-variants.{Timeout, Tag, IrqIn, SpiSs}
+use Rattle.model.specs.Replies.{wakeOf, Reply, meaning, reply}
 use Rattle.cases.specs.Awaiting.{toIdn, toSelect, toSend, toIdle, toEcho, good, failed, wakeBy, waking, isMalformed}
 use Rattle.cases.specs.Replies.{those, codes, bad, AllBad}
 
@@ -36,6 +37,10 @@ pub record Bytes : Type 0 where
       (0x01 ∷ 0x02 ∷ 0x08 ∷ 0x10 ∷ 0x43 ∷ 0x98 ∷ 0xC9 ∷ 0xDB ∷ 0xE5 ∷ []) ≡
       (0x01 ∷ []) ∷ (0x02 ∷ []) ∷ (0x08 ∷ []) ∷ (0x10 ∷ []) ∷ (0x01 ∷ 0x02 ∷ []) ∷ (0x08 ∷ 0x10 ∷ []) ∷ (0x01 ∷ 0x08 ∷ []) ∷
       (0x01 ∷ 0x02 ∷ 0x08 ∷ 0x10 ∷ []) ∷ (0x01 ∷ []) ∷ []
+  -- timeout, tag and IRQ_IN each by its own byte alone
+  pub wakes :
+      map wakeOf (0x00 ∷ 0x01 ∷ 0x02 ∷ 0x03 ∷ 0x07 ∷ 0x08 ∷ 0x09 ∷ 0x10 ∷ []) ≡
+      SpiSs ∷ Timeout ∷ Tag ∷ SpiSs ∷ SpiSs ∷ IrqIn ∷ SpiSs ∷ SpiSs ∷ []
   -- the sources that have none: 00 begins no reply, and an error still does
   pub sourceless :
       those (λ (source : ℕ). isMalformed (reply (toIdle source) (0x00 ∷ []) .verdict)) 256 [] ≡

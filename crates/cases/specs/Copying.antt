@@ -3,7 +3,10 @@
 use Prim.Native.Nat.{ℕ}
 use mathlib.Core.Path.{_≡_}
 use mathlib.Core.List.{List, [], _∷_, map}
-use Rattle.words.specs.Words.{bit, within, pasted, Bytes, concat}
+use Rattle.words.specs.declared.Laid.{Laid}
+use Rattle.words.specs.declared.Laid.the-variants.{Short}
+use Rattle.words.specs.Words.{bit, within, pasted, laid, Bytes, concat}
+use Rattle.words.specs.Contract.{Ran}
 use Rattle.cases.specs.Replies.{those}
 
 -- ---- bytes
@@ -24,6 +27,9 @@ Bits =
 
 -- ---- parts of a list
 
+abbrev pub lying : Laid → List ℕ → Ran Laid
+lying answer bytes = record { answer = answer; bytes = bytes }
+
 abbrev pub held : List ℕ
 held = 0xB0 ∷ 0xB1 ∷ 0xB2 ∷ 0xB3 ∷ 0xB4 ∷ []
 
@@ -37,6 +43,12 @@ abbrev pub Copies : Type 0
 Copies =
     map (pasted held (0xC1 ∷ 0xC2 ∷ [])) (0 ∷ 1 ∷ 3 ∷ 4 ∷ 5 ∷ []) ≡
     (0xC1 ∷ 0xC2 ∷ 0xB2 ∷ 0xB3 ∷ 0xB4 ∷ []) ∷ (0xB0 ∷ 0xC1 ∷ 0xC2 ∷ 0xB3 ∷ 0xB4 ∷ []) ∷ (0xB0 ∷ 0xB1 ∷ 0xB2 ∷ 0xC1 ∷ 0xC2 ∷ []) ∷ held ∷ held ∷ []
+
+-- no byte, as many as the buffer has, and one more, which does not fit
+abbrev pub Lays : Type 0
+Lays =
+    map (λ (xs : List ℕ). laid xs held) ([] ∷ (0xC1 ∷ 0xC2 ∷ 0xC3 ∷ 0xC4 ∷ 0xC5 ∷ []) ∷ (0xC1 ∷ 0xC2 ∷ 0xC3 ∷ 0xC4 ∷ 0xC5 ∷ 0xC6 ∷ []) ∷ []) ≡
+    lying (Laid.Bytes 0) held ∷ lying (Laid.Bytes 5) (0xC1 ∷ 0xC2 ∷ 0xC3 ∷ 0xC4 ∷ 0xC5 ∷ []) ∷ lying Short held ∷ []
 
 abbrev pub Joined : Type 0
 Joined = concat ((0xB0 ∷ []) ∷ [] ∷ (0xB1 ∷ 0xB2 ∷ []) ∷ []) ≡ 0xB0 ∷ 0xB1 ∷ 0xB2 ∷ []
