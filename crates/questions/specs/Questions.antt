@@ -15,6 +15,7 @@ use Rattle.model.specs.declared.Flags.{Flags}
 use Rattle.words.specs.Words.{pick, bit}
 use Rattle.model.specs.Frames.{settings, settingsAllowed, readCommand, flags, received}
 use Rattle.model.specs.Times.{ticks, tTO}
+use Rattle.model.specs.Refusals.{Number, none, number as numbered, bandNumber}
 use Rattle.model.specs.Calibration.{band}
 use Rattle.text.specs.Lines.{rest, byteAt}
 use Rattle.text.specs.Writing.{word, hex, hexes, number}
@@ -54,9 +55,14 @@ waitText s =
 
 -- ---- the guard band
 
+-- a refusal by the number that the model gives it
+abbrev pub numberText : Number → List (List ℕ)
+numberText none = []
+numberText (numbered n) = refusedText n
+
 abbrev pub guardText : Guard → List (List ℕ)
 guardText (Band low high) = word "band" ∷ hex low ∷ hex high ∷ []
-guardText NoBand = refusedText 11
+guardText NoBand = numberText (bandNumber NoBand)
 
 -- ---- the call that sends a frame
 
