@@ -12,7 +12,7 @@ use Rattle.words.specs.Words.{pick}
 use Rattle.words.specs.Contract.{Ran}
 use Rattle.model.specs.Frames.{command}
 use Rattle.model.specs.Session.{power-on, pulse, request, reset, poll, read, calibrate, next, step}
-use Rattle.text.specs.Lines.{fore, rest, byteAt}
+use Rattle.lines.specs.Lines.{fore, rest, byteAt}
 use Rattle.calls.specs.declared.Act.{Act}
 use Rattle.calls.specs.declared.Act.the-variants.{PowerOn, Pulse, Sends, Reset, Poll, Read, Calibrate, Next}
 

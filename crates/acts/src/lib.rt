@@ -20,21 +20,21 @@ fn plan(prescaler: usize, given: &[u8]) -> Plan
     Plan {
         prescaler: (prescaler % 256) as u8,
         enter: Pair {
-            first: text::at(given, 0),
-            second: text::at(given, 1),
+            first: lines::at(given, 0),
+            second: lines::at(given, 1),
         },
         wake: Pair {
-            first: text::at(given, 2),
-            second: text::at(given, 3),
+            first: lines::at(given, 2),
+            second: lines::at(given, 3),
         },
         leave: Pair {
-            first: text::at(given, 4),
-            second: text::at(given, 5),
+            first: lines::at(given, 4),
+            second: lines::at(given, 5),
         },
-        period: text::at(given, 6),
-        osc: text::at(given, 7),
-        dac: text::at(given, 8),
-        swing: text::at(given, 9),
+        period: lines::at(given, 6),
+        osc: lines::at(given, 7),
+        dac: lines::at(given, 8),
+        swing: lines::at(given, 9),
     }
 }
 

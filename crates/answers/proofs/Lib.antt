@@ -1,4 +1,2 @@
-pub mod Values
 pub mod Held
-pub mod RefusalsTold
 pub mod NoBlankEnd

@@ -13,7 +13,7 @@ use lib.ListN.{length, drop, getD, drop-of-length-le, List·getD-eq-default}
 use lib.Seq.{drop-cons}
 use Rattle.words.specs.Words.{pick}
 use Rattle.words.proofs.Words.{each}
-use Rattle.text.specs.Lines.{same}
+use Rattle.lines.specs.Lines.{same}
 use Rattle.text.specs.Writing.{word}
 use Rattle.calls.specs.declared.Verb.the-variants.{Helps}
 use Rattle.calls.specs.declared.Shape.the-variants.{Nothing}

@@ -7,7 +7,7 @@ use lib.ListN.{getD}
 use Rattle.model.specs.declared.Kind.{Kind}
 use Rattle.model.specs.declared.Kind.the-variants.{Idn, ProtocolSelect, SendRecv, Idle, Echo}
 use Rattle.words.specs.Words.{pick}
-use Rattle.text.specs.Lines.{fore, rest, wordEnd, same}
+use Rattle.lines.specs.Lines.{fore, rest, wordEnd, same}
 use Rattle.text.specs.Writing.{word}
 use Rattle.calls.specs.declared.Act.the-variants.{PowerOn, Pulse, Sends, Reset, Poll, Read, Calibrate, Next}
 use Rattle.calls.specs.declared.Question.the-variants.{Times, Wait, Band, Command, Flags, Received}

@@ -2,12 +2,9 @@
 ghost use mathlib.Core.Path.{_≡_};
 ghost use Prim.Native.Nat.{_*_};
 ghost use mathlib.Core.List.{[], _∷_};
-ghost use Rattle.text.specs.Lines.{between};
+ghost use Rattle.lines.specs.Lines.{between};
 ghost use Rattle.text.specs.Writing.{Puts};
 ghost use Rattle.calls.specs.Calls.{rows, nameOf, sentBy, kindName, position, wordAt};
-
-pub mod reading;
-
 use model::Kind;
 
 // A call of the session that is fed nothing.
@@ -90,7 +87,7 @@ pub enum Shape {
 }
 
 // How many names there are, ten bytes each.
-const CALLS: u8 = 22;
+pub const CALLS: u8 = 22;
 
 const NAME: usize = 10;
 
@@ -101,8 +98,8 @@ const NAMES: [u8; 220] =
 fn name(names: &[u8], k: u8) -> &[u8]
     ensures { λ r. ⌜ now r ≡ wordAt (now (names .entry)) (k * 10) ⌝ }
 {
-    let name = text::after(names, k as usize * NAME);
-    text::front(name, text::word_end(name, 0))
+    let name = lines::after(names, k as usize * NAME);
+    lines::front(name, lines::word_end(name, 0))
 }
 
 // Puts the name of a number, and nothing for the number of no name.
@@ -134,13 +131,13 @@ pub fn put_kind(text: &mut [u8], at: usize, kind: Kind) -> usize
 }
 
 // The number of the name that the line has from one place to another, or how many names there are for none.
-fn number_of(line: &[u8], from: usize, end: usize) -> u8
+pub fn number_of(line: &[u8], from: usize, end: usize) -> u8
     ensures { λ r. ⌜ r ≡ position (between (now (line .entry)) from end) rows ⌝ }
 {
     let names = NAMES;
     let mut k: u8 = 0;
     while k < CALLS {
-        if text::is_word(line, from, end, name(&names, k)) {
+        if lines::is_word(line, from, end, name(&names, k)) {
             return k;
         }
         k += 1;

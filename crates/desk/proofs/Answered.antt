@@ -24,7 +24,7 @@ use Rattle.words.specs.Contract.{Ran}
 use Rattle.model.specs.Frames.{settings, settingsAllowed, readCommand}
 use Rattle.model.specs.Calibration.{band}
 use Rattle.words.proofs.Words.{ways}
-use Rattle.text.specs.Lines.{fore, rest, byteAt, skipped}
+use Rattle.lines.specs.Lines.{fore, rest, byteAt, skipped}
 use Rattle.text.specs.Writing.{written, word, hexes}
 use Rattle.calls.specs.declared.Question.{Question}
 use Rattle.calls.specs.declared.Question.the-variants.{Times, Wait, Command, Received}
@@ -37,16 +37,18 @@ use Rattle.calls.specs.declared.Fault.the-variants.{Unknown, Longer, NoPair, No
 use Rattle.calls.specs.declared.Asked.{Asked}
 use Rattle.calls.specs.declared.Asked.the-variants.{Understood, Wrong}
 use Rattle.calls.specs.Calls.{kindName}
-use Rattle.calls.specs.Asking.{asked}
+use Rattle.reading.specs.Asking.{asked}
 use Rattle.faults.specs.Faults.{faultText}
-use Rattle.answers.specs.Answers.{answerText, usedText, stateText}
+use Rattle.help.specs.Page.{page}
+use Rattle.answers.specs.Answers.{answerText, usedText}
+use Rattle.standing.specs.Standing.{stateText}
 use Rattle.questions.specs.Questions.{guardText, readingText, questionText}
 use Rattle.desk.specs.declared.Post.{Post}
 use Rattle.desk.specs.Desk.{Left, acting, feeding, obeyed, carriedOut, blankBytes}
 use Rattle.desk.specs.Claims.{Unmoved, Answered}
 
 pub unmoved : Unmoved
-unmoved line post page out room text fault some call wrong =
+unmoved line post out room text fault some call wrong =
     simp (lt-leb (length line) (skipped line 0) some, ne-eqb (byteAt line 0) 35 call, wrong)
 
 -- its hypothesis is met: "tag" is the name of no call
@@ -120,14 +122,18 @@ begun-short text (part ∷ parts) t room =
     begun text part parts (leb→le 1 (length part) (and-l (leb 1 (length part)) (leb (length part) 80) t))
     (omega (arith, leb→le (length part) 80 (and-r (leb 1 (length part)) (leb (length part) 80) t)))
 
-module _ (post : Post) (page out room text : List ℕ) (some : 0 < length page) (fits : length page ≤ length text) (long : 80 ≤ length text) where
+module _ (post : Post) (out room text : List ℕ) (fits : length page ≤ length text) where
+  -- the page is longer than that
+  long : 80 ≤ length text
+  long = omega (arith, fits)
+
   abbrev Spoken : Left → Type 0
   Spoken left = 0 < left .done .answer .n
 
   answer-begun : (answer : Answer) (bytes : List ℕ) (more : List (List ℕ)) → 0 < written text 0 (answerText answer bytes ++ more) .answer
   answer-begun answer bytes more = begun-short text (answerText answer bytes ++ more) (answer-short answer bytes more) long
 
-  by-obeyed : (call : Verb) (number : ℕ) (given : List ℕ) → Spoken (obeyed call post number given page out room text)
+  by-obeyed : (call : Verb) (number : ℕ) (given : List ℕ) → Spoken (obeyed call post number given out room text)
   by-obeyed (Acts act) number given =
       let ran = acting post act number given out in answer-begun (ran .answer .answer) (ran .bytes) (stateText (ran .answer .session))
   by-obeyed Feeds number given =
@@ -135,15 +141,15 @@ module _ (post : Post) (page out room text : List ℕ) (some : 0 < length page) 
       let o = ran .answer in answer-begun (o .answer) [] (usedText (o .used) (o .place) given (ran .bytes) ++ stateText (o .session))
   by-obeyed (Tells question) number given = begun-short text (questionText question given) (question-short question given) long
   by-obeyed (Sets buffer) number given = begun text (word "ok") (stateText (post .session)) (omega arith) (omega arith)
-  by-obeyed Helps number given = begun text page [] some fits
+  by-obeyed Helps number given = begun text page [] (omega arith) fits
 
-  by-heard : (read : Asked) (bytes : List ℕ) → Spoken (carriedOut read bytes post page out room text)
+  by-heard : (read : Asked) (bytes : List ℕ) → Spoken (carriedOut read bytes post out room text)
   by-heard (Understood call number count) bytes = by-obeyed call number (fore bytes count)
   by-heard (Wrong fault) bytes = begun-short text (faultText fault) (fault-short fault) long
 
 pub answered : Answered
-answered line post page out room text word whole some fits long =
+answered line post out room text word whole fits =
     let read = asked line blankBytes in
     rw (lt-leb (length line) (skipped line 0) word)
-    (ways (Spoken post page out room text some fits long) (eqb (byteAt line 0) 35) (λ e. begun text line [] (omega arith) whole)
-    (λ e. by-heard post page out room text some fits long (read .answer) (read .bytes)))
+    (ways (Spoken post out room text fits) (eqb (byteAt line 0) 35) (λ e. begun text line [] (omega arith) whole)
+    (λ e. by-heard post out room text fits (read .answer) (read .bytes)))

@@ -10,7 +10,7 @@ use Rattle.model.specs.declared.Session.{Session}
 use Rattle.model.specs.Frames.{command}
 use Rattle.model.specs.Session.{power-on, pulse, request, reset, poll, read, calibrate, next, feed}
 use Rattle.words.proofs.Words.{ways}
-use Rattle.text.specs.Lines.{fore, byteAt, skipped}
+use Rattle.lines.specs.Lines.{fore, byteAt, skipped}
 use Rattle.calls.specs.declared.Act.{Act}
 use Rattle.calls.specs.declared.Act.the-variants.{PowerOn, Pulse, Sends, Reset, Poll, Read, Calibrate, Next}
 use Rattle.calls.specs.declared.Buffer.the-variants.{Out, Room}
@@ -18,7 +18,7 @@ use Rattle.calls.specs.declared.Verb.{Verb}
 use Rattle.calls.specs.declared.Verb.the-variants.{Acts, Feeds, Tells, Sets, Helps}
 use Rattle.calls.specs.declared.Asked.{Asked}
 use Rattle.calls.specs.declared.Asked.the-variants.{Understood, Wrong}
-use Rattle.calls.specs.Asking.{asked}
+use Rattle.reading.specs.Asking.{asked}
 use Rattle.acts.specs.Acts.{interfaceOf, planOf, acted}
 use Rattle.desk.specs.declared.Post.{Post}
 use Rattle.desk.specs.Desk.{Left, obeyed, carriedOut, blankBytes}
@@ -34,11 +34,11 @@ act-made s Read number given out = record { call = read number out; is = refl }
 act-made s Calibrate number given out = record { call = calibrate (planOf number given) out; is = refl }
 act-made s Next number given out = record { call = next out; is = refl }
 
-module _ (post : Post) (page out room text : List ℕ) where
+module _ (post : Post) (out room text : List ℕ) where
   abbrev Once : Left → Type 0
   Once left = let after = left .done .answer .post .session in (after ≡ post .session) ⊎ Made (post .session) after
 
-  by-obeyed : (call : Verb) (number : ℕ) (given : List ℕ) → Once (obeyed call post number given page out room text)
+  by-obeyed : (call : Verb) (number : ℕ) (given : List ℕ) → Once (obeyed call post number given out room text)
   by-obeyed (Acts act) number given = inr (act-made (post .session) act number given (fore out (post .out)))
   by-obeyed Feeds number given = inr (record { call = feed given (fore room (post .room)); is = refl })
   by-obeyed (Tells question) number given = inl refl
@@ -46,12 +46,12 @@ module _ (post : Post) (page out room text : List ℕ) where
   by-obeyed (Sets Room) number given = inl refl
   by-obeyed Helps number given = inl refl
 
-  by-heard : (read : Asked) (bytes : List ℕ) → Once (carriedOut read bytes post page out room text)
+  by-heard : (read : Asked) (bytes : List ℕ) → Once (carriedOut read bytes post out room text)
   by-heard (Understood call number count) bytes = by-obeyed call number (fore bytes count)
   by-heard (Wrong fault) bytes = inl refl
 
 pub one-call : OneCall
-one-call line post page out room text =
+one-call line post out room text =
     let read = asked line blankBytes in
-    ways (Once post page out room text) (leb (length line) (skipped line 0)) (λ t. inl refl)
-    (λ t. ways (Once post page out room text) (eqb (byteAt line 0) 35) (λ e. inl refl) (λ e. by-heard post page out room text (read .answer) (read .bytes)))
+    ways (Once post out room text) (leb (length line) (skipped line 0)) (λ t. inl refl)
+    (λ t. ways (Once post out room text) (eqb (byteAt line 0) 35) (λ e. inl refl) (λ e. by-heard post out room text (read .answer) (read .bytes)))

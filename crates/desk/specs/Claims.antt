@@ -7,11 +7,12 @@ use mathlib.Core.List.{List}
 use lib.ListN.{length}
 use Rattle.model.specs.declared.Session.{Session}
 use Rattle.model.specs.Session.{Call, step}
-use Rattle.text.specs.Lines.{byteAt, skipped}
+use Rattle.lines.specs.Lines.{byteAt, skipped}
 use Rattle.calls.specs.declared.Fault.{Fault}
 use Rattle.calls.specs.declared.Asked.the-variants.{Wrong}
-use Rattle.calls.specs.Asking.{asked}
+use Rattle.reading.specs.Asking.{asked}
 use Rattle.faults.specs.Faults.{faultText}
+use Rattle.help.specs.Page.{page}
 use Rattle.desk.specs.declared.Post.{Post}
 use Rattle.desk.specs.Desk.{saying, blankBytes, answered}
 
@@ -23,18 +24,18 @@ pub record Made (s next : Session) : Type 0 where
 -- the session after a line is the one before it, or what one call makes of it
 abbrev pub OneCall : Type 0
 OneCall =
-    (line : List ℕ) (post : Post) (page out room text : List ℕ)
-    → let next = answered line post page out room text .done .answer .post .session in (next ≡ post .session) ⊎ Made (post .session) next
+    (line : List ℕ) (post : Post) (out room text : List ℕ)
+    → let next = answered line post out room text .done .answer .post .session in (next ≡ post .session) ⊎ Made (post .session) next
 
 -- a line that is no call is told what is wrong with it, and changes nothing
 abbrev pub Unmoved : Type 0
 Unmoved =
-    (line : List ℕ) (post : Post) (page out room text : List ℕ) (fault : Fault) → skipped line 0 < length line → (byteAt line 0 ≡ 35 → ⊥)
+    (line : List ℕ) (post : Post) (out room text : List ℕ) (fault : Fault) → skipped line 0 < length line → (byteAt line 0 ≡ 35 → ⊥)
     → asked line blankBytes .answer ≡ Wrong fault
-    → answered line post page out room text ≡ record { done = saying post (faultText fault) text; out = out; room = room }
+    → answered line post out room text ≡ record { done = saying post (faultText fault) text; out = out; room = room }
 
--- a line with a word is answered, where the text has room for 80 bytes, for the line and for the page
+-- a line with a word is answered, where the text has room for the line and for the page
 abbrev pub Answered : Type 0
 Answered =
-    (line : List ℕ) (post : Post) (page out room text : List ℕ) → skipped line 0 < length line → length line ≤ length text → 0 < length page
-    → length page ≤ length text → 80 ≤ length text → 0 < answered line post page out room text .done .answer .n
+    (line : List ℕ) (post : Post) (out room text : List ℕ) → skipped line 0 < length line → length line ≤ length text → length page ≤ length text
+    → 0 < answered line post out room text .done .answer .n

@@ -10,7 +10,7 @@ use Rattle.model.specs.declared.Outcome.{Outcome}
 use Rattle.words.specs.Words.{pick}
 use Rattle.words.specs.Contract.{Ran, Is}
 use Rattle.model.specs.Session.{feed, step}
-use Rattle.text.specs.Lines.{fore, byteAt, skipped}
+use Rattle.lines.specs.Lines.{fore, byteAt, skipped}
 use Rattle.text.specs.Writing.{written, word}
 use Rattle.calls.specs.declared.Act.{Act}
 use Rattle.calls.specs.declared.Buffer.{Buffer}
@@ -19,9 +19,11 @@ use Rattle.calls.specs.declared.Verb.{Verb}
 use Rattle.calls.specs.declared.Verb.the-variants.{Acts, Feeds, Tells, Sets, Helps}
 use Rattle.calls.specs.declared.Asked.{Asked}
 use Rattle.calls.specs.declared.Asked.the-variants.{Understood, Wrong}
-use Rattle.calls.specs.Asking.{asked}
+use Rattle.reading.specs.Asking.{asked}
 use Rattle.faults.specs.Faults.{faultText}
-use Rattle.answers.specs.Answers.{answerText, usedText, stateText}
+use Rattle.help.specs.Page.{page}
+use Rattle.answers.specs.Answers.{answerText, usedText}
+use Rattle.standing.specs.Standing.{stateText}
 use Rattle.questions.specs.Questions.{questionText}
 use Rattle.acts.specs.Acts.{acted, onFront}
 use Rattle.desk.specs.declared.Post.{Post}
@@ -78,34 +80,33 @@ feedTold post piece ran text =
 abbrev pub setTold : Post → Buffer → ℕ → List ℕ → Ran Done
 setTold post buffer n text = saying (lending post buffer n) (word "ok" ∷ stateText (post .session)) text
 
--- the page is what help tells
-abbrev pub obeyed : Verb → Post → ℕ → List ℕ → List ℕ → List ℕ → List ℕ → List ℕ → Left
-obeyed (Acts act) post number given page out room text =
+abbrev pub obeyed : Verb → Post → ℕ → List ℕ → List ℕ → List ℕ → List ℕ → Left
+obeyed (Acts act) post number given out room text =
     let ran = acting post act number given out in record { done = actTold post ran text; out = ran .bytes; room = room }
-obeyed Feeds post number given page out room text =
+obeyed Feeds post number given out room text =
     let ran = feeding post given room in record { done = feedTold post given ran text; out = out; room = ran .bytes }
-obeyed (Tells question) post number given page out room text =
+obeyed (Tells question) post number given out room text =
     record { done = saying post (questionText question given) text; out = out; room = room }
-obeyed (Sets buffer) post number given page out room text = record { done = setTold post buffer number text; out = out; room = room }
-obeyed Helps post number given page out room text = record { done = saying post (page ∷ []) text; out = out; room = room }
+obeyed (Sets buffer) post number given out room text = record { done = setTold post buffer number text; out = out; room = room }
+obeyed Helps post number given out room text = record { done = saying post (page ∷ []) text; out = out; room = room }
 
 -- ---- the line
 
 -- a line that was read as a call, with the buffer that has its bytes
-abbrev pub carriedOut : Asked → List ℕ → Post → List ℕ → List ℕ → List ℕ → List ℕ → Left
-carriedOut (Understood call number count) bytes post page out room text = obeyed call post number (fore bytes count) page out room text
-carriedOut (Wrong fault) bytes post page out room text = record { done = saying post (faultText fault) text; out = out; room = room }
+abbrev pub carriedOut : Asked → List ℕ → Post → List ℕ → List ℕ → List ℕ → Left
+carriedOut (Understood call number count) bytes post out room text = obeyed call post number (fore bytes count) out room text
+carriedOut (Wrong fault) bytes post out room text = record { done = saying post (faultText fault) text; out = out; room = room }
 
 -- the buffer for the bytes of a line, which are two digits each
 abbrev pub blankBytes : List ℕ
 blankBytes = replicate 2048 0
 
-abbrev pub hearing : List ℕ → Post → List ℕ → List ℕ → List ℕ → List ℕ → Left
-hearing line post page out room text = let read = asked line blankBytes in carriedOut (read .answer) (read .bytes) post page out room text
+abbrev pub hearing : List ℕ → Post → List ℕ → List ℕ → List ℕ → Left
+hearing line post out room text = let read = asked line blankBytes in carriedOut (read .answer) (read .bytes) post out room text
 
 -- a line with no word has no answer, one that begins with # is copied, and any other is a call
-abbrev pub answered : List ℕ → Post → List ℕ → List ℕ → List ℕ → List ℕ → Left
-answered line post page out room text =
+abbrev pub answered : List ℕ → Post → List ℕ → List ℕ → List ℕ → Left
+answered line post out room text =
     pick (leb (length line) (skipped line 0)) (record { done = record { answer = record { post = post; n = 0 }; bytes = text }; out = out; room = room })
     (pick (eqb (byteAt line 0) 35) (record { done = saying post (line ∷ []) text; out = out; room = room })
-    (hearing line post page out room text))
+    (hearing line post out room text))

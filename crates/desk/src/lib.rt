@@ -6,7 +6,6 @@ use calls::Act;
 use calls::Asked;
 use calls::Buffer;
 use calls::Verb;
-use calls::reading;
 use model::Session;
 
 // The session, and how much of the output and of the reply room is lent.
@@ -61,7 +60,7 @@ fn act(what: Act, post: Post, number: usize, given: &[u8], out: &mut [u8], text:
     let n = answers::put_answer(text, answer, out);
     Done {
         post: with_session(post, s),
-        n: answers::put_state(text, n, s),
+        n: standing::put_state(text, n, s),
     }
 }
 
@@ -78,7 +77,7 @@ fn feed(post: Post, piece: &[u8], room: &mut [u8], text: &mut [u8]) -> Done
     let n = answers::put_used(text, n, outcome.used, place, piece, room);
     Done {
         post: with_session(post, s),
-        n: answers::put_state(text, n, s),
+        n: standing::put_state(text, n, s),
     }
 }
 
@@ -89,22 +88,21 @@ fn set(post: Post, buffer: Buffer, length: usize, text: &mut [u8]) -> Done
     let n = text::put(text, 0, b"ok");
     Done {
         post: lend(post, buffer, length),
-        n: answers::put_state(text, n, s),
+        n: standing::put_state(text, n, s),
     }
 }
 
-// Does what a call says; the page is what help tells.
-fn obey<'a>(
+// Does what a call says.
+fn obey(
     call: Verb,
     post: Post,
     number: usize,
-    given: &'a [u8],
-    page: &'a [u8],
+    given: &[u8],
     out: &mut [u8],
     room: &mut [u8],
     text: &mut [u8],
 ) -> Done
-    ensures { λ r. ⌜ Leaves (obeyed call post number (now (given .entry)) (now (page .entry)) (now (out .entry)) (now (room .entry)) (now (text .entry))) r (now (out .exit)) (now (room .exit)) (now (text .exit)) ⌝ }
+    ensures { λ r. ⌜ Leaves (obeyed call post number (now (given .entry)) (now (out .entry)) (now (room .entry)) (now (text .entry))) r (now (out .exit)) (now (room .exit)) (now (text .exit)) ⌝ }
 {
     match call {
         Verb::Acts(what) => act(what, post, number, given, out, text),
@@ -116,21 +114,14 @@ fn obey<'a>(
         Verb::Sets(buffer) => set(post, buffer, number, text),
         Verb::Helps => Done {
             post,
-            n: text::put(text, 0, page),
+            n: help::put(text, 0),
         },
     }
 }
 
 // A line read as a call, and obeyed.
-fn hear<'a>(
-    line: &'a [u8],
-    post: Post,
-    page: &'a [u8],
-    out: &mut [u8],
-    room: &mut [u8],
-    text: &mut [u8],
-) -> Done
-    ensures { λ r. ⌜ Leaves (hearing (now (line .entry)) post (now (page .entry)) (now (out .entry)) (now (room .entry)) (now (text .entry))) r (now (out .exit)) (now (room .exit)) (now (text .exit)) ⌝ }
+fn hear(line: &[u8], post: Post, out: &mut [u8], room: &mut [u8], text: &mut [u8]) -> Done
+    ensures { λ r. ⌜ Leaves (hearing (now (line .entry)) post (now (out .entry)) (now (room .entry)) (now (text .entry))) r (now (out .exit)) (now (room .exit)) (now (text .exit)) ⌝ }
 {
     let mut bytes = [0u8; 2048];
     match reading::read(line, &mut bytes) {
@@ -142,8 +133,7 @@ fn hear<'a>(
             call,
             post,
             number,
-            text::front(&bytes, count),
-            page,
+            lines::front(&bytes, count),
             out,
             room,
             text,
@@ -156,24 +146,17 @@ fn hear<'a>(
 }
 
 // The answer to a line, at the front of the text, with no line end.
-pub fn answer<'a>(
-    line: &'a [u8],
-    post: Post,
-    page: &'a [u8],
-    out: &mut [u8],
-    room: &mut [u8],
-    text: &mut [u8],
-) -> Done
-    ensures { λ r. ⌜ Leaves (answered (now (line .entry)) post (now (page .entry)) (now (out .entry)) (now (room .entry)) (now (text .entry))) r (now (out .exit)) (now (room .exit)) (now (text .exit)) ⌝ }
+pub fn answer(line: &[u8], post: Post, out: &mut [u8], room: &mut [u8], text: &mut [u8]) -> Done
+    ensures { λ r. ⌜ Leaves (answered (now (line .entry)) post (now (out .entry)) (now (room .entry)) (now (text .entry))) r (now (out .exit)) (now (room .exit)) (now (text .exit)) ⌝ }
 {
-    if line.len() <= text::skip(line, 0) {
+    if line.len() <= lines::skip(line, 0) {
         return Done { post, n: 0 };
     }
-    if text::at(line, 0) == b'#' {
+    if lines::at(line, 0) == b'#' {
         return Done {
             post,
             n: text::put(text, 0, line),
         };
     }
-    hear(line, post, page, out, room, text)
+    hear(line, post, out, room, text)
 }

@@ -1,7 +1,4 @@
 // The host program: reads calls, one a line, from the file that its argument names or from standard input, and answers each at once.
-mod help;
-
-use calls::reading;
 use desk::Post;
 use libc::STDIN_FILENO;
 use libc::STDOUT_FILENO;
@@ -39,7 +36,7 @@ fn trimmed(line: &[u8]) -> &[u8] {
 // Answers the line that is in.
 fn end_line(k: Keeper, line: &[u8], out: &mut [u8], room: &mut [u8]) -> Keeper {
     let post = k.post;
-    let whole = trimmed(text::front(line, k.n));
+    let whole = trimmed(lines::front(line, k.n));
     if k.is_long || whole.len() > LONGEST {
         io::write_all(
             STDOUT_FILENO,
@@ -48,11 +45,11 @@ fn end_line(k: Keeper, line: &[u8], out: &mut [u8], room: &mut [u8]) -> Keeper {
         return begun(post);
     }
     let mut answer = [0u8; 8192];
-    let done = help::answer(whole, post, out, room, &mut answer);
+    let done = desk::answer(whole, post, out, room, &mut answer);
     let n = done.n;
     if n > 0 {
         let n = text::put(&mut answer, n, b"\n");
-        io::write_all(STDOUT_FILENO, text::front(&answer, n));
+        io::write_all(STDOUT_FILENO, lines::front(&answer, n));
     }
     begun(done.post)
 }

@@ -16,7 +16,6 @@ use model::State;
 use model::Turn;
 use model::Verdict;
 use model::Wake;
-use states::answers;
 
 // Ready for protocol 0, Selected otherwise.
 fn resting(protocol: u8) -> State
@@ -200,6 +199,6 @@ pub fn outcome_of(fed: Fed, s: Session, awaited: Awaited, selected: u8) -> Outco
             Place::Nowhere,
         ),
         Verdict::Ended(end) => ended_by(end, s, awaited, selected, used, place),
-        Verdict::NoRoom => answers::refused(s, Refusal::Short),
+        Verdict::NoRoom => sending::refused(s, Refusal::Short),
     }
 }

@@ -1,3 +1,1 @@
-pub mod Milliseconds
 pub mod Questions
-pub mod Claims

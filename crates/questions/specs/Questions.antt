@@ -2,56 +2,25 @@
 -- Assumes nothing.
 use Prim.Native.Nat.{ℕ}
 use mathlib.Core.Bool.{Bool, true, false}
-use mathlib.Core.List.{List, [], _∷_, _++_}
-use Rattle.model.specs.declared.Settings.{Settings}
-use Rattle.model.specs.declared.Ticks.{Ticks}
-use Rattle.model.specs.declared.Refusal.the-variants.{Invalid}
+use mathlib.Core.List.{List, [], _∷_}
 use Rattle.model.specs.declared.Guard.{Guard}
 use Rattle.model.specs.declared.Guard.the-variants.{Band, NoBand}
 use Rattle.model.specs.declared.Reading.{Reading}
 use Rattle.model.specs.declared.Reading.the-variants.{Taken}
 use Rattle.model.specs.declared.Reading.the-variants.{Refused as NoFrame}
 use Rattle.model.specs.declared.Flags.{Flags}
-use Rattle.words.specs.Words.{pick, bit}
-use Rattle.model.specs.Frames.{settings, settingsAllowed, readCommand, flags, received}
-use Rattle.model.specs.Times.{ticks, tTO}
+use Rattle.model.specs.Frames.{settings, readCommand, flags, received}
 use Rattle.model.specs.Refusals.{Number, none, number as numbered, bandNumber}
 use Rattle.model.specs.Calibration.{band}
-use Rattle.text.specs.Lines.{rest, byteAt}
-use Rattle.text.specs.Writing.{word, hex, hexes, number}
+use Rattle.lines.specs.Lines.{rest, byteAt}
+use Rattle.text.specs.Writing.{word, hex, hexes}
 use Rattle.calls.specs.declared.Question.{Question}
 use Rattle.calls.specs.declared.Question.the-variants.{Times, Wait, Command, Received}
 use Rattle.calls.specs.declared.Question.the-variants.{Band as BandOf}
 use Rattle.calls.specs.declared.Question.the-variants.{Flags as FlagsOf}
 use Rattle.calls.specs.Calls.{kindName}
-use Rattle.answers.specs.Answers.{refusedText, refusalText}
-use Rattle.questions.specs.Milliseconds.{millisecondsText, allMilliseconds}
-
--- ---- waiting times
-
--- in the order of the paper
-abbrev pub inOrder : Ticks → List ℕ
-inOrder t = t .low ∷ t .reference ∷ t .inactive ∷ t .timeout ∷ t .osc ∷ t .dac ∷ []
-
--- the six times in ticks
-abbrev pub six : Settings → List ℕ
-six s = inOrder (ticks s)
-
-abbrev pub numbers : List ℕ → List (List ℕ)
-numbers [] = []
-numbers (n ∷ ns) = number n ++ numbers ns
-
--- in ticks, then in milliseconds
-abbrev pub timesText : Settings → List (List ℕ)
-timesText s =
-    pick (settingsAllowed s) (word "ticks" ∷ (numbers (six s) ++ (word " ms" ∷ allMilliseconds (six s)))) (refusalText Invalid)
-
--- without end where bit 0 is clear
-abbrev pub waitText : Settings → List (List ℕ)
-waitText s =
-    pick (settingsAllowed s)
-    (pick (bit 0 (s .source)) (word "after" ∷ (millisecondsText (tTO s) ++ (word " ms" ∷ []))) (word "endless" ∷ []))
-    (refusalText Invalid)
+use Rattle.refusals.specs.Refusals.{refusedText, refusalText}
+use Rattle.durations.specs.Durations.{timesText, waitText}
 
 -- ---- the guard band
 

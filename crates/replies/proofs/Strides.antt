@@ -6,7 +6,6 @@ use mathlib.Core.Path.{_≡_, refl, sym, ap, ap₂, _∙_, subst}
 use mathlib.Core.List.{List, [], _∷_}
 use lib.ListN.{length, getD, take, drop, take-append-drop, length-drop, drop-of-length-le}
 use lib.Seq.{length-take-le, take-length, take-all, drop-drop}
-use borrow.Author.Tests.{le-ltb}
 use Rattle.model.specs.declared.Form.{Form}
 use Rattle.model.specs.declared.Phase.{Phase}
 use Rattle.model.specs.declared.Phase.the-variants.{Data}
@@ -15,7 +14,7 @@ use Rattle.model.specs.declared.End.the-variants.{Good}
 use Rattle.model.specs.declared.Step.{Step}
 use Rattle.model.specs.declared.Step.the-variants.{On, Over}
 use Rattle.model.specs.declared.Walk.{Walk}
-use Rattle.model.specs.Replies.{wrong, next, reached, used, walked}
+use Rattle.model.specs.Replies.{next, reached, used, walked}
 use Rattle.model.proofs.Machine.{stays, no-more, reached-append, used-append, All, used-all, data-some, data-all}
 use Rattle.replies.specs.Reading.{Strides}
 
@@ -37,10 +36,6 @@ module _ (f : Form) where
   stride-one p (x ∷ xs) r some s n = strides p (x ∷ xs) r (next f p x) 1 s n (omega arith) (omega arith) refl
 
   module _ (h c : ℕ) (xs : List ℕ) where
-    -- none is to come
-    pub stride-none : (r : Walk) → 0 < length xs → c ≤ h → r .step ≡ wrong (h + 2) (getD xs 0 0) → r .used ≡ 1 → Strides f (Data h c) xs r
-    stride-none r some le s n = stride-one (Data h c) xs r some (simp (le-ltb h c le) s) n
-
     -- fewer than are to come
     pub stride-part : (r : Walk) → 0 < length xs → length xs < c - h → r .step ≡ On (Data (h + length xs) c) → r .used ≡ length xs → Strides f (Data h c) xs r
     stride-part r some lt s n =

@@ -1,5 +1,4 @@
 // What the state of a session allows, and the session in another state.
-pub mod answers;
 pub mod due;
 
 ghost use mathlib.Core.Path.{_≡_};
@@ -98,7 +97,7 @@ pub(crate) fn is_off(state: State) -> bool
 }
 
 // The protocol that is selected, 0 for none.
-pub(crate) fn protocol_of(state: State) -> u8
+pub fn protocol_of(state: State) -> u8
     ensures { λ r. ⌜ r ≡ protocolOf state ⌝ }
 {
     match state {

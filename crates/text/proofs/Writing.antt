@@ -10,9 +10,7 @@ use borrow.Author.Tests.{le-leb, lt-leb}
 use Rattle.words.specs.Words.{pasted}
 use Rattle.words.specs.Contract.{Is}
 use Rattle.buffers.proofs.Pasting.{fits}
-use Rattle.text.specs.Hex.{glyph}
-use Rattle.text.specs.Decimal.{decimal}
-use Rattle.text.specs.Writing.{written, Puts, hex, hexes, number}
+use Rattle.text.specs.Writing.{written, Puts, glyph, hex, hexes, decimal, number}
 
 module _ (text part : List ℕ) (at : ℕ) where
   pub puts : (r : ℕ) (exit : List ℕ) → at + length part ≤ length text → r ≡ at + length part → exit ≡ pasted text part at

@@ -1,5 +1,3 @@
-pub mod Lines
-pub mod Hex
-pub mod Decimal
 pub mod Writing
 pub mod Claims
+pub mod Ending

@@ -1,16 +1,14 @@
 -- Writing into a text: parts at a place, one behind the other, and the place behind them.
 -- Assumes nothing.
-use Prim.Native.Nat.{ℕ, _+_}
+use Prim.Native.Nat.{ℕ, zero, suc, _+_, _/_, _%_}
 use Prim.Native.Char.{code}
 use Prim.Native.String.{String, [] as nothing, _∷_ as _then_}
-use mathlib.Core.List.{List, [], _∷_}
-use lib.Dec.{leb}
+use mathlib.Core.List.{List, [], _∷_, _++_}
+use lib.Dec.{ltb, leb}
 use lib.ListN.{length}
 use lib.Seq.{paste}
 use Rattle.words.specs.Words.{pick}
 use Rattle.words.specs.Contract.{Ran, Is}
-use Rattle.text.specs.Hex.{pair}
-use Rattle.text.specs.Decimal.{decimal}
 
 -- a part put at a place, and the place behind it, where it fits; otherwise text and place as they were
 abbrev pub placed : List ℕ → ℕ → List ℕ → Ran ℕ
@@ -35,6 +33,14 @@ abbrev pub word : String → List ℕ
 word nothing = []
 word (letter then letters) = code letter ∷ word letters
 
+-- the digit of a number below 16: 0 to 9, then A to F
+abbrev pub glyph : ℕ → ℕ
+glyph d = pick (ltb d 10) (48 + d) (55 + d)
+
+-- a byte as two digits, the higher first
+abbrev pub pair : ℕ → List ℕ
+pair byte = glyph (byte / 16) ∷ glyph (byte % 16) ∷ []
+
 -- a blank and a pair of hex digits
 abbrev pub hex : ℕ → List ℕ
 hex byte = 32 ∷ pair byte
@@ -43,6 +49,15 @@ hex byte = 32 ∷ pair byte
 abbrev pub hexes : List ℕ → List (List ℕ)
 hexes [] = []
 hexes (byte ∷ bytes) = hex byte ∷ hexes bytes
+
+-- a number of up to k digits
+abbrev pub decimals : ℕ → ℕ → List ℕ
+decimals zero n = []
+decimals (suc k) n = pick (ltb n 10) ((48 + n) ∷ []) (decimals k (n / 10) ++ ((48 + n % 10) ∷ []))
+
+-- a number of up to twenty digits, as many as one of 64 bits can have
+abbrev pub decimal : ℕ → List ℕ
+decimal n = decimals 20 n
 
 -- a blank, then a decimal number
 abbrev pub number : ℕ → List (List ℕ)

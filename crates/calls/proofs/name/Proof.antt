@@ -5,7 +5,7 @@ use Prim.Native.Nat.{ℕ}
 use mathlib.Core.Path.{_∙_, ap}
 use mathlib.Core.List.{List}
 use denote.Ref.{now}
-use Rattle.text.specs.Lines.{fore, wordEnd}
+use Rattle.lines.specs.Lines.{fore, wordEnd}
 use Rattle.calls.proofs.name.Statement.{statement}
 use Rattle.calls.proofs.name.Tie as tie
 

@@ -7,7 +7,7 @@ use mathlib.Core.Path.{_≡_, sym, ap, _∙_}
 use mathlib.Core.List.{List}
 use denote.Ref.{now}
 use lib.ListN.{drop}
-use Rattle.text.specs.Lines.{between, same}
+use Rattle.lines.specs.Lines.{between, same}
 use Rattle.calls.specs.declared.Verb.the-variants.{Helps}
 use Rattle.calls.specs.declared.Shape.the-variants.{Nothing}
 use Rattle.calls.specs.Calls.{Row, row, rows, nameOf, position}

@@ -9,8 +9,8 @@ use Rattle.desk.proofs.answer.Tie as tie
 returns : tie.Need-returns
 returns c =
     let skipped = c .before in
-    let a = skipped .before .before .before .before .before .before .args in
-    empty (a .post) (now (a .page)) (now (a .out)) (now (a .room)) (now (a .text)) (now (a .line)) (skipped .skip .ensures) (c .if1 .taken)
+    let a = skipped .before .before .before .before .before .args in
+    empty (a .post) (now (a .out)) (now (a .room)) (now (a .text)) (now (a .line)) (skipped .skip .ensures) (c .if1 .taken)
 
 returns-2 : tie.Need-returns-2
 returns-2 c =
@@ -18,8 +18,8 @@ returns-2 c =
     let marked = put .before .before in
     let some = marked .before .before in
     let skipped = some .before in
-    let a = skipped .before .before .before .before .before .before .args in
-    copied (a .post) (now (a .page)) (now (a .out)) (now (a .room)) (now (a .text)) (now (a .line)) (skipped .skip .ensures) (some .if1 .left) (marked .before .at .ensures)
+    let a = skipped .before .before .before .before .before .args in
+    copied (a .post) (now (a .out)) (now (a .room)) (now (a .text)) (now (a .line)) (skipped .skip .ensures) (some .if1 .left) (marked .before .at .ensures)
     (marked .if2 .taken) (put .put .ensures)
 
 returns-3 : tie.Need-returns-3
@@ -28,8 +28,8 @@ returns-3 c =
     let unmarked = heard .before .before .before .before in
     let some = unmarked .before .before in
     let skipped = some .before in
-    let a = skipped .before .before .before .before .before .before .args in
-    called (a .post) (now (a .page)) (now (a .out)) (now (a .room)) (now (a .text)) (now (a .line)) (skipped .skip .ensures) (some .if1 .left) (unmarked .before .at .ensures)
+    let a = skipped .before .before .before .before .before .args in
+    called (a .post) (now (a .out)) (now (a .room)) (now (a .text)) (now (a .line)) (skipped .skip .ensures) (some .if1 .left) (unmarked .before .at .ensures)
     (unmarked .if2 .left) (heard .hear .ensures)
 
 pub answer-spec : {M : Type 1} → statement M

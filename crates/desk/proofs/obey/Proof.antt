@@ -12,40 +12,40 @@ returns : tie.Need-returns
 returns c =
     let called = c .before .before .before .before in
     let told = called .before .before .before .before in
-    let a = told .before .before .before .before .before .before .before .args in
-    by-call (a .post) (now (a .page)) (now (a .out)) (now (a .room)) (now (a .text)) (a .number) (now (a .given)) (told .call .given .1)
+    let a = told .before .before .before .before .before .before .args in
+    by-call (a .post) (now (a .out)) (now (a .room)) (now (a .text)) (a .number) (now (a .given)) (told .call .given .1)
     (record { done = called .act .ensures .0; out = called .act .ensures .1; room = refl })
 
 returns-2 : tie.Need-returns-2
 returns-2 c =
     let called = c .before .before .before .before in
     let told = called .before .before .before in
-    let a = told .before .before .before .before .before .before .before .args in
-    by-call (a .post) (now (a .page)) (now (a .out)) (now (a .room)) (now (a .text)) (a .number) (now (a .given)) (told .enum-told .given .1)
+    let a = told .before .before .before .before .before .before .args in
+    by-call (a .post) (now (a .out)) (now (a .room)) (now (a .text)) (a .number) (now (a .given)) (told .enum-told .given .1)
     (record { done = called .feed .ensures .0; out = refl; room = called .feed .ensures .1 })
 
 returns-3 : tie.Need-returns-3
 returns-3 c =
     let called = c .before .before in
     let told = called .before .before .before in
-    let a = told .before .before .before .before .before .before .before .args in
-    by-call (a .post) (now (a .page)) (now (a .out)) (now (a .room)) (now (a .text)) (a .number) (now (a .given)) (told .call2 .given .1)
+    let a = told .before .before .before .before .before .before .args in
+    by-call (a .post) (now (a .out)) (now (a .room)) (now (a .text)) (a .number) (now (a .given)) (told .call2 .given .1)
     (record { done = telling refl (called .answer .ensures); out = refl; room = refl })
 
 returns-4 : tie.Need-returns-4
 returns-4 c =
     let called = c .before .before in
     let told = called .before .before .before in
-    let a = told .before .before .before .before .before .before .before .args in
-    by-call (a .post) (now (a .page)) (now (a .out)) (now (a .room)) (now (a .text)) (a .number) (now (a .given)) (told .call3 .given .1)
+    let a = told .before .before .before .before .before .before .args in
+    by-call (a .post) (now (a .out)) (now (a .room)) (now (a .text)) (a .number) (now (a .given)) (told .call3 .given .1)
     (record { done = called .set .ensures; out = refl; room = refl })
 
 returns-5 : tie.Need-returns-5
 returns-5 c =
     let called = c .before .before in
     let told = called .before .before in
-    let a = told .before .before .before .before .before .before .before .args in
-    by-call (a .post) (now (a .page)) (now (a .out)) (now (a .room)) (now (a .text)) (a .number) (now (a .given)) (told .enum-told2 .given .1)
+    let a = told .before .before .before .before .before .before .args in
+    by-call (a .post) (now (a .out)) (now (a .room)) (now (a .text)) (a .number) (now (a .given)) (told .enum-told2 .given .1)
     (record { done = telling refl (called .put .ensures); out = refl; room = refl })
 
 pub obey-spec : {M : Type 1} → statement M

@@ -7,10 +7,10 @@ use mathlib.Core.List.{List}
 use denote.Ref.{now}
 use Rattle.model.specs.Calibration.{band}
 use Rattle.model.specs.declared.Guard.the-variants.{NoBand}
-use Rattle.text.specs.Lines.{byteAt}
+use Rattle.lines.specs.Lines.{byteAt}
 use Rattle.text.specs.Writing.{Puts}
 use Rattle.text.proofs.Writing.{_then_, by}
-use Rattle.answers.specs.Answers.{refusedText}
+use Rattle.refusals.specs.Refusals.{refusedText}
 use Rattle.questions.specs.Questions.{guardText}
 use Rattle.questions.proofs.band.Statement.{statement}
 use Rattle.questions.proofs.band.Tie as tie

@@ -5,7 +5,7 @@ use Prim.Native.Nat.{ℕ}
 use mathlib.Core.Path.{_≡_, sym, _∙_}
 use mathlib.Core.List.{List}
 use denote.Ref.{now}
-use Rattle.text.specs.Lines.{rest}
+use Rattle.lines.specs.Lines.{rest}
 use Rattle.text.specs.Writing.{hexes}
 use Rattle.text.proofs.Writing.{_then_, by}
 use Rattle.questions.specs.Questions.{readingText}

@@ -19,13 +19,13 @@ abbrev μ-loop : tie.MeasureT-loop
 μ-loop form piece q₀ i₀ q i = length piece - i
 
 -- behind a stride
-stepped : (c : tie.After-next Inv-loop μ-loop) (s : Step) → c .next .result .step ≡ s
+stepped : (c : tie.After-stride Inv-loop μ-loop) (s : Step) → c .stride .result .step ≡ s
     → Left (c .before .before .before .before .before .args .form) (On (c .before .before .before .before .before .args .phase))
-    (now (c .before .before .before .before .before .args .piece)) s (c .before .before .before .loop .i + c .next .result .used)
+    (now (c .before .before .before .before .before .args .piece)) s (c .before .before .before .loop .i + c .stride .result .used)
 stepped c s e =
     let l = c .before .before .before .loop in
     let a = c .before .before .before .before .before .args in
-    left-on (a .form) (On (a .phase)) (now (a .piece)) (l .q) (l .i) (c .next .result) s e (c .next .ensures) (l .inv .1)
+    left-on (a .form) (On (a .phase)) (now (a .piece)) (l .q) (l .i) (c .stride .result) s e (c .stride .ensures) (l .inv .1)
 
 loop-again : tie.Need-loop-again Inv-loop μ-loop
 loop-again c = (omega arith, stepped (c .before .before .before .before) (On _) (c .before .step .given .1))

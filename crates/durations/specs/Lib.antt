@@ -1,0 +1,3 @@
+pub mod Milliseconds
+pub mod Durations
+pub mod Claims

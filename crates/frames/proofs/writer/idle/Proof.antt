@@ -1,8 +1,0 @@
--- `frames::writer::idle` meets its contract, from what `write` ensures of the settings in wire order.
--- Assumes nothing.
-use borrow.Author.Needs.{needs}
-use Rattle.frames.proofs.writer.idle.Statement.{statement}
-use Rattle.frames.proofs.writer.idle.Tie as tie
-
-pub idle-spec : {M : Type 1} → statement M
-idle-spec = tie.close (tie.spec (λ c. search needs) (λ c κs. search needs) (λ c. search needs) (λ c. c .before .before .write .ensures))

@@ -1,0 +1,30 @@
+-- `reading::exactly` meets its contract.
+-- Assumes nothing.
+use borrow.Author.Needs.{needs}
+use native.Mathlib.Omega.{arith}
+use mathlib.Core.Path.{sym, ap}
+use borrow.Author.Tests.{eq-eqb, ne-eqb}
+use Rattle.reading.specs.Asking.{counted}
+use Rattle.reading.proofs.exactly.Statement.{statement}
+use Rattle.reading.proofs.exactly.Tie as tie
+
+returns : tie.Need-returns
+returns c =
+    let known = c .before .before .asked .given in
+    let count = known .0 .1 .1 .0 in
+    let wanted = c .before .before .before .before .args .wanted in
+    simp (known .1, eq-eqb count wanted (omega (arith, c .if1 .taken)))
+
+returns-2 : tie.Need-returns-2
+returns-2 c =
+    let known = c .before .before .asked .given in
+    let count = known .0 .1 .1 .0 in
+    let wanted = c .before .before .before .before .args .wanted in
+    simp (known .1, ne-eqb count wanted (c .if1 .left))
+
+returns-3 : tie.Need-returns-3
+returns-3 c = sym (ap (counted (c .before .before .before .args .wanted)) (c .before .asked2 .given .1))
+
+pub exactly-spec : {M : Type 1} → statement M
+exactly-spec =
+    tie.close (tie.spec (λ c. search needs) (λ c. search needs) returns returns-2 returns-3)

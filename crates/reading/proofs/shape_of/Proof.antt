@@ -1,0 +1,37 @@
+-- `reading::shape_of` meets its contract.
+-- Assumes nothing.
+use mathlib.Core.Path.{sym, ap}
+use Rattle.calls.specs.Calls.{shapeOf}
+use Rattle.calls.proofs.Names.{past, takes-nothing}
+use Rattle.reading.proofs.shape_of.Statement.{statement}
+use Rattle.reading.proofs.shape_of.Tie as tie
+
+returns-22 : tie.Need-returns-22
+returns-22 c = let k = c .before .args .k in takes-nothing k (past 21 k (c .match .rest))
+
+pub shape-of-spec : {M : Type 1} → statement M
+shape-of-spec =
+    tie.close
+    (tie.spec
+    (λ c. sym (ap shapeOf (c .match .keys1)))
+    (λ c. sym (ap shapeOf (c .match .keys2)))
+    (λ c. sym (ap shapeOf (c .match .keys3)))
+    (λ c. sym (ap shapeOf (c .match .keys4)))
+    (λ c. sym (ap shapeOf (c .match .keys5)))
+    (λ c. sym (ap shapeOf (c .match .keys6)))
+    (λ c. sym (ap shapeOf (c .match .keys7)))
+    (λ c. sym (ap shapeOf (c .match .keys8)))
+    (λ c. sym (ap shapeOf (c .match .keys9)))
+    (λ c. sym (ap shapeOf (c .match .keys10)))
+    (λ c. sym (ap shapeOf (c .match .keys11)))
+    (λ c. sym (ap shapeOf (c .match .keys12)))
+    (λ c. sym (ap shapeOf (c .match .keys13)))
+    (λ c. sym (ap shapeOf (c .match .keys14)))
+    (λ c. sym (ap shapeOf (c .match .keys15)))
+    (λ c. sym (ap shapeOf (c .match .keys16)))
+    (λ c. sym (ap shapeOf (c .match .keys17)))
+    (λ c. sym (ap shapeOf (c .match .keys18)))
+    (λ c. sym (ap shapeOf (c .match .keys19)))
+    (λ c. sym (ap shapeOf (c .match .keys20)))
+    (λ c. sym (ap shapeOf (c .match .keys21)))
+    returns-22)

@@ -1,0 +1,209 @@
+// The reply table: where a byte leads from each phase of a reply, by the form that is awaited.
+ghost use mathlib.Core.Path.{_≡_};
+ghost use mathlib.Core.Bool.{true};
+ghost use Rattle.model.specs.declared.Form.{Form};
+ghost use Rattle.model.specs.declared.Phase.the-variants.{Failed};
+ghost use Rattle.model.specs.Replies.{isError, isEvent, anyEvent, wakeOf, atFirst, counting, atSecond, atEvent, atData};
+use model::End;
+use model::Form;
+use model::Phase;
+use model::Step;
+use model::Wake;
+
+// No reply has the byte at this place.
+fn wrong(place: usize, byte: u8) -> Step
+    ensures { λ r. ⌜ r ≡ Rattle.model.specs.Replies.wrong place byte ⌝ }
+{
+    Step::Over(End::Malformed { place, byte })
+}
+
+// Some event can come.
+fn any_event(source: u8) -> bool
+    ensures { λ r. ⌜ r ≡ anyEvent source ⌝ }
+{
+    source & 0x1B != 0
+}
+
+// 00 is the result code of all forms but two.
+fn at_zero(form: Form) -> Step
+    ensures { λ r. ⌜ r ≡ atFirst form 0x00 ⌝ }
+{
+    let unknown = wrong(0, 0x00);
+    match form {
+        Form::Exactly { count: _ } => Step::On(Phase::Counting),
+        Form::Counted => unknown,
+        Form::Awake { source } => if any_event(source) {
+            Step::On(Phase::Counting)
+        } else {
+            unknown
+        },
+        Form::Single => unknown,
+    }
+}
+
+// 55 is the whole reply to Echo, and begins no other.
+fn at_echo(form: Form) -> Step
+    ensures { λ r. ⌜ r ≡ atFirst form 0x55 ⌝ }
+{
+    let unknown = wrong(0, 0x55);
+    match form {
+        Form::Exactly { count: _ } => unknown,
+        Form::Counted => unknown, // 55 may stand inside its data
+        Form::Awake { source: _ } => unknown,
+        Form::Single => Step::Over(End::Good),
+    }
+}
+
+// 80 is the result code of SendRecv.
+fn at_received(form: Form) -> Step
+    ensures { λ r. ⌜ r ≡ atFirst form 0x80 ⌝ }
+{
+    let unknown = wrong(0, 0x80);
+    match form {
+        Form::Exactly { count: _ } => unknown,
+        Form::Counted => Step::On(Phase::Counting),
+        Form::Awake { source: _ } => unknown,
+        Form::Single => unknown,
+    }
+}
+
+// An error code answers all but Echo.
+fn at_error(form: Form, code: u8) -> Step
+    requires { ⌜ isError code ≡ true ⌝ }
+    ensures { λ r. ⌜ r ≡ atFirst form code ⌝ }
+{
+    let failed = Step::On(Phase::Failed { code });
+    match form {
+        Form::Exactly { count: _ } => failed,
+        Form::Counted => failed,
+        Form::Awake { source: _ } => failed,
+        Form::Single => wrong(0, code),
+    }
+}
+
+// The first byte.
+fn first(form: Form, byte: u8) -> Step
+    ensures { λ r. ⌜ r ≡ atFirst form byte ⌝ }
+{
+    match byte {
+        0x00 => at_zero(form),
+        0x55 => at_echo(form),
+        0x80 => at_received(form),
+        0x82 | 0x83 | 0x85..=0x8F => at_error(form, byte),
+        0x01..=0x54 | 0x56..=0x7F | 0x81 | 0x84 | 0x90..=0xFF => wrong(0, byte),
+    }
+}
+
+// The byte behind an error code.
+fn close(code: u8, byte: u8) -> Step
+    ensures { λ r. ⌜ ((form : Form) → r ≡ Rattle.model.specs.Replies.next form (Failed code) byte) ⌝ }
+{
+    if byte == 0x00 {
+        return Step::Over(End::Error { code });
+    }
+    wrong(1, byte)
+}
+
+// So many data bytes are to come.
+fn counted(count: u8) -> Step
+    ensures { λ r. ⌜ r ≡ counting count ⌝ }
+{
+    if count == 0 {
+        return Step::Over(End::Good);
+    }
+    Step::On(Phase::Data { have: 0, count })
+}
+
+// The byte behind a result code.
+fn second(form: Form, byte: u8) -> Step
+    ensures { λ r. ⌜ r ≡ atSecond form byte ⌝ }
+{
+    let malformed = wrong(1, byte);
+    match form {
+        Form::Exactly { count } => if byte == count {
+            counted(byte)
+        } else {
+            malformed
+        },
+        Form::Counted => counted(byte),
+        Form::Awake { source: _ } => if byte == 0x01 {
+            Step::On(Phase::Waking)
+        } else {
+            malformed
+        },
+        Form::Single => malformed,
+    }
+}
+
+// The event is one of the four, and its own bit was set in WU source.
+fn is_event(source: u8, event: u8) -> bool
+    ensures { λ r. ⌜ r ≡ isEvent source event ⌝ }
+{
+    match event {
+        0x01 => source & 0x01 != 0,
+        0x02 => source & 0x02 != 0,
+        0x08 => source & 0x08 != 0,
+        0x10 => source & 0x10 != 0,
+        _ => false,
+    }
+}
+
+// What woke the chip.
+fn wake_of(event: u8) -> Wake
+    ensures { λ r. ⌜ r ≡ wakeOf event ⌝ }
+{
+    match event {
+        0x01 => Wake::Timeout,
+        0x02 => Wake::Tag,
+        0x08 => Wake::IrqIn,
+        _ => Wake::SpiSs,
+    }
+}
+
+// The byte behind 00 01.
+fn event(form: Form, byte: u8) -> Step
+    ensures { λ r. ⌜ r ≡ atEvent form byte ⌝ }
+{
+    let malformed = wrong(2, byte);
+    match form {
+        Form::Exactly { count: _ } => malformed,
+        Form::Counted => malformed,
+        Form::Awake { source } => if is_event(source, byte) {
+            Step::Over(End::Woken {
+                wake: wake_of(byte),
+            })
+        } else {
+            malformed
+        },
+        Form::Single => malformed,
+    }
+}
+
+// A data byte, behind some. None to come is a record that no call made.
+fn data(have: u8, count: u8, byte: u8) -> Step
+    ensures { λ r. ⌜ r ≡ atData have count byte ⌝ }
+{
+    if count <= have {
+        return wrong(have as usize + 2, byte);
+    }
+    if have + 1 == count {
+        return Step::Over(End::Good);
+    }
+    Step::On(Phase::Data {
+        have: have + 1,
+        count,
+    })
+}
+
+// Where a byte leads from a phase.
+pub fn next(form: Form, phase: Phase, byte: u8) -> Step
+    ensures { λ r. ⌜ r ≡ Rattle.model.specs.Replies.next form phase byte ⌝ }
+{
+    match phase {
+        Phase::Begun => first(form, byte),
+        Phase::Failed { code } => close(code, byte),
+        Phase::Counting => second(form, byte),
+        Phase::Waking => event(form, byte),
+        Phase::Data { have, count } => data(have, count, byte),
+    }
+}
