@@ -7,7 +7,7 @@ use Rattle.model.specs.Times.{tL, tREF, tINACTIVE, tTO, tOSC, tDAC, millisecond
 use Rattle.cases.specs.Starred.{Starred}
 use Rattle.cases.specs.Replies.{Codes, Good-replies, Bad-replies, Pieces, Places}
 use Rattle.cases.specs.Sessions.{Changes, Requests, Feeds, Calibrations, Selecting, Pulses, Given}
-use Rattle.cases.specs.Published.{Frames, Read, Refused, Transfers, Outputs, Received, Prescalers, Waits, Numbers, Values, Reported, Mild}
+use Rattle.cases.specs.Published.{Frames, Read, Refused, Transfers, Outputs, Received, Prescalers, Waits, Numbers, Values, Reported, Mild, Told}
 use Rattle.cases.specs.Copying.{Widest, Wider, Bits, Parts, Copies, Lays, Joined}
 
 pub starred : Starred
@@ -77,6 +77,9 @@ numbers = refl
 
 pub values : Values
 values = refl
+
+pub told : Told
+told = record { numbers = refl; values = refl }
 
 pub reported : Reported
 reported = refl

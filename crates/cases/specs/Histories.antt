@@ -16,7 +16,8 @@ use Rattle.model.specs.Frames.{idn, echo}
 use Rattle.model.specs.Session.{Call, power-on, pulse, request, reset, poll, read, calibrate, next, feed, unpowered}
 use Rattle.model.specs.History.{Event, Owner, requested, first, later, Exchange, exchange, exchanges, commands, Told, told, answers}
 use Rattle.model.specs.Promises.{tag, timeout}
-use Rattle.model.specs.Talk.{ends, calibrated, last}
+use Rattle.model.specs.Talk.{ends, last}
+use Rattle.cases.specs.Driving.{calibrated}
 use Rattle.cases.specs.Awaiting.{toIdn, toIdle, toEcho, woke}
 use Rattle.cases.specs.Starred.{room, singly}
 use Rattle.cases.specs.Sessions.{after}
@@ -117,7 +118,7 @@ pub record Last : Type 0 where
 -- ---- a run over SPI with p = 3, of a chip that gives tag up to 5C
 
 abbrev pub driven : List Event
-driven = calibrated (λ (level : ℕ). leb level 0x5C) singly (λ (h : List Event). room) (λ (h : List Event). room) (planned 3) Spi unpowered .history
+driven = calibrated (λ (level : ℕ). leb level 0x5C) singly room room (planned 3) Spi unpowered .history
 
 -- the replies of a tag and of a timeout
 abbrev pub gaveTag : Owner → Exchange

@@ -1,4 +1,5 @@
 pub mod Awaiting
+pub mod Driving
 pub mod Starred
 pub mod Published
 pub mod Replies
@@ -15,3 +16,4 @@ pub mod Replying
 pub mod Ending
 pub mod Histories
 pub mod Chips
+pub mod Company

@@ -8,6 +8,8 @@ use lib.ListN.{replicate}
 use Rattle.model.specs.declared.Interface.the-variants.{Spi, Uart}
 use Rattle.model.specs.declared.Refusal.{Refusal}
 use Rattle.model.specs.declared.Refusal.the-variants.{Short, Invalid, Unready, Busy, Malformed, Unawaited, ChipError, LowestTimeout, HighestTag, NoLevel, CalibrationError}
+use Rattle.model.specs.declared.Wake.the-variants.{Tag}
+use Rattle.model.specs.declared.Answer.{Answer}
 use Rattle.model.specs.declared.Settings.{Settings}
 use Rattle.model.specs.declared.Reading.{Reading}
 use Rattle.model.specs.declared.Reading.the-variants.{Taken}
@@ -17,7 +19,7 @@ use Rattle.model.specs.declared.Wait.the-variants.{Endless, After}
 use Rattle.model.specs.declared.Waited.{Waited}
 use Rattle.model.specs.declared.Timing.{Timing}
 use Rattle.words.specs.Contract.{Ran}
-use Rattle.model.specs.Refusals.{numberOf, valuesOf, silent, ended, reportOf}
+use Rattle.model.specs.Refusals.{numberOf, valuesOf, silent, ended, reportOf, none, number, numberIn, valuesIn}
 use Rattle.model.specs.Frames.{Command, idn, protocolSelect, sendRecv, idle, echo, frame, prescaler, send, reset, poll, read, bytes, write, received, readCommand}
 use Rattle.model.specs.Checks.{isMild}
 use Rattle.model.specs.Times.{timesOf, waitOf}
@@ -155,3 +157,12 @@ Reported =
 -- those that change nothing, write nothing and consume nothing
 abbrev pub Mild : Type 0
 Mild = those isMild 13 [] ≡ 1 ∷ 2 ∷ 3 ∷ 4 ∷ 6 ∷ 11 ∷ []
+
+-- number and values of any answer
+abbrev pub answers : List Answer
+answers =
+    Answer.Done ∷ Answer.Sent 16 ∷ Answer.More ∷ Answer.Good ∷ Answer.Woken Tag ∷ Answer.Reference 0x5C 8 ∷ Answer.Refused (CalibrationError 0x8D 3) ∷ []
+
+pub record Told : Type 0 where
+  pub numbers : map numberIn answers ≡ none ∷ none ∷ none ∷ none ∷ none ∷ none ∷ number 12 ∷ []
+  pub values : map valuesIn answers ≡ [] ∷ (16 ∷ []) ∷ [] ∷ [] ∷ [] ∷ (0x5C ∷ 8 ∷ []) ∷ (0x8D ∷ 3 ∷ []) ∷ []

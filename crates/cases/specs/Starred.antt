@@ -22,7 +22,8 @@ use Rattle.model.specs.Times.{ticks, times, timesOf, waitOf}
 use Rattle.model.specs.Calibration.{settingsAt, band}
 use Rattle.model.specs.Session.{unpowered}
 use Rattle.model.specs.History.{Event, Exchange, exchanges, trials, levelOf}
-use Rattle.model.specs.Talk.{eventOf, calibrated, last}
+use Rattle.model.specs.Talk.{last}
+use Rattle.cases.specs.Driving.{eventOf, calibrated}
 use Rattle.cases.specs.Awaiting.{toSend, toIdle, waking, good, failed, wrong}
 
 -- the plan of the calibrations, and the settings of its Idle command at a level
@@ -73,11 +74,11 @@ abbrev pub room : List ℕ
 room = replicate 255 0xEE
 
 -- each reply byte by byte
-abbrev pub singly : ℕ → Bool → List (List ℕ)
-singly k x = (0x00 ∷ []) ∷ (0x01 ∷ []) ∷ (eventOf x ∷ []) ∷ []
+abbrev pub singly : Bool → List (List ℕ)
+singly x = (0x00 ∷ []) ∷ (0x01 ∷ []) ∷ (eventOf x ∷ []) ∷ []
 
 abbrev pub switchingAt : ℕ → List Event
-switchingAt top = calibrated (λ (level : ℕ). leb level top) singly (λ (h : List Event). room) (λ (h : List Event). room) plan Uart unpowered .history
+switchingAt top = calibrated (λ (level : ℕ). leb level top) singly room room plan Uart unpowered .history
 
 -- the levels tried, in order
 abbrev pub levels : List Event → List ℕ

@@ -2,3 +2,4 @@ pub mod Telling
 pub mod Hearing
 pub mod OneCall
 pub mod Answered
+pub mod OneLine

@@ -14,7 +14,8 @@ use Rattle.reading.specs.Asking.{asked}
 use Rattle.faults.specs.Faults.{faultText}
 use Rattle.help.specs.Page.{page}
 use Rattle.desk.specs.declared.Post.{Post}
-use Rattle.desk.specs.Desk.{saying, blankBytes, answered}
+use Rattle.desk.specs.declared.Done.{Done}
+use Rattle.desk.specs.Desk.{Left, Leaves, saying, blankBytes, answered}
 
 -- a call of the session leads from s to next
 pub record Made (s next : Session) : Type 0 where
@@ -39,3 +40,9 @@ abbrev pub Answered : Type 0
 Answered =
     (line : List ℕ) (post : Post) (out room text : List ℕ) → skipped line 0 < length line → length line ≤ length text → length page ≤ length text
     → 0 < answered line post out room text .done .answer .n
+
+-- a line allows one answer, and one content of each buffer
+abbrev pub OneLine : Type 0
+OneLine =
+    (left : Left) (r r′ : Done) (out out′ room room′ text text′ : List ℕ) → Leaves left r out room text → Leaves left r′ out′ room′ text′
+    → (r ≡ r′) × (out ≡ out′) × (room ≡ room′) × (text ≡ text′)

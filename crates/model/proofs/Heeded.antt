@@ -38,9 +38,9 @@ never P ts old x n = (omega arith, (λ one. absurd (omega (arith, one)), λ p. a
 once : (P : Type 0) (ts old : List Told) → One ts old → P → Brings P ts old
 once P ts old x p = (omega arith, (λ _. p, λ _. x))
 
-brings-refused : (running : Bool) (y : Report) (c : ℕ) (ts old : List Told) → RefusedBy running y c ts old → Brings (HeededBy y) ts old
-brings-refused running silent c ts old x = never ⊥ ts old x (λ z. z)
-brings-refused running (ended n) c ts old x = once (Unit {0}) ts old (x .1) tt
+brings-refused : (F : Told → Type 0) (running : Bool) (y : Report) (c : ℕ) (ts old : List Told) → RefusedBy F running y c ts old → Brings (HeededBy y) ts old
+brings-refused F running silent c ts old x = never ⊥ ts old x (λ z. z)
+brings-refused F running (ended n) c ts old x = once (Unit {0}) ts old (x .1) tt
 
 brings : (running : Bool) (a : Answer) (c : ℕ) (ts old : List Told) → SaysBy running a c ts old → Brings (Heeded running a) ts old
 brings running Answer.Done c ts old x = never ⊥ ts old x (λ z. z)
@@ -50,7 +50,7 @@ brings running Answer.Good c ts old x = never ⊥ ts old x (λ z. z)
 brings running (Answer.Woken w) c ts old x =
     ⊎-elim (λ (off, none). never (running ≡ true) ts old none (λ on. true≢false (sym on ∙ off))) (λ (on, one, _, _). once (running ≡ true) ts old one on) x
 brings running (Answer.Reference reference n) c ts old x = once (Unit {0}) ts old (x .1) tt
-brings running (Answer.Refused k) c ts old x = brings-refused running (reportOf k) c ts old x
+brings running (Answer.Refused k) c ts old x = brings-refused _ running (reportOf k) c ts old x
 
 pub heeds : Heeds
 heeds r a c =

@@ -11,7 +11,7 @@ use lib.ListN.{length}
 use lib.Ieee.Fits.{and-l, and-r}
 use Rattle.model.specs.declared.Interface.{Interface}
 use Rattle.model.specs.declared.Refusal.{Refusal}
-use Rattle.model.specs.declared.Refusal.the-variants.{CalibrationError}
+use Rattle.model.specs.declared.Refusal.the-variants.{Short, Invalid, Unready, Busy, Unawaited, ChipError, LowestTimeout, HighestTag, NoLevel, CalibrationError}
 use Rattle.model.specs.declared.Awaited.{Awaited}
 use Rattle.model.specs.declared.Progress.{Progress}
 use Rattle.model.specs.declared.Wake.{Wake}
@@ -37,19 +37,19 @@ use Rattle.model.specs.declared.Answer.{Answer}
 use Rattle.model.specs.declared.Outcome.{Outcome}
 use Rattle.words.specs.Words.{pick}
 use Rattle.words.specs.Contract.{Ran}
-use Rattle.model.specs.Refusals.{Report, silent, ended, reportOf}
+use Rattle.model.specs.Refusals.{Report, silent, ended, numberOf, valuesOf, reportOf}
 use Rattle.model.specs.Frames.{idle, send, bytes}
 use Rattle.model.specs.Replies.{leastRoom, formOf, idled, reached, verdictOf, fedBy, fedFrom}
 use Rattle.model.specs.Calibration.{settingsAt, search, isTag, tagged, timedOut}
 use Rattle.model.specs.Checks.{Passes, mild}
 use Rattle.model.specs.Session.{made, into, pulsed, refuse, lent, isWaiting, isRunning, isDue, afterGood, afterError, turned, woken, endedBy, outcomeBy, outcomeOf, continuing, writingNext, continues, Awaits, none, some, isSome, awaits, takes, checks, does, Call, power-on, pulse, request, reset, poll, read, calibrate, next, feed, step}
 use Rattle.model.specs.History.{Event, Reached, event, turn, run, on, Owner, requested, first, later, Passing, sourceIn, Exchange, exchange, fed, exchangesBy, exchanges, ownBy, trials, commands, levelOf, Told, told, answerBy, verdictIn, answersIn, answers}
-use Rattle.model.specs.Promises.{tag, timeout, Gave, Right, Level, Steady, Agrees, says, newest}
+use Rattle.model.specs.Promises.{tag, timeout, Gave, Right, Fits, lowest, highest, eighth, error, Level, Steady, Agrees, says, newest}
 use Rattle.words.proofs.Words.{ways}
 use Rattle.model.proofs.Ordering.{Gives, mild-silent, awaited, Quiet, unheard, ignored, quiet, by-step}
 use Rattle.model.proofs.Cable.{ledTo, NowBy, Now, over-fed, unasked, source-is, level-is, closed, over-answer, led-on, keep-now}
 use Rattle.model.proofs.Idling.{Idled, idled-at, never-good, wakes-by}
-use Rattle.model.proofs.Tree.{woke, isTimeout, has, isTagLast, strange, named, failed, judge, given, tree, begins}
+use Rattle.model.proofs.Tree.{woke, isTimeout, has, isTagLast, strange, named, top, failed, counted, judge, given, tree, begins}
 
 -- ---- the invariant
 
@@ -126,10 +126,14 @@ abbrev pub Newest : End → List Told → Type 0
 Newest e [] = ⊥
 Newest e (t ∷ ts) = t .said ≡ e
 
+abbrev pub Tops : (Told → Type 0) → List Told → Type 0
+Tops F [] = ⊥
+Tops F (t ∷ ts) = F t
+
 -- what a refusal says of the commands c, the answers ts, and the answers before it
-abbrev pub RefusedBy : Bool → Report → ℕ → List Told → List Told → Type 0
-RefusedBy running silent c ts old = None ts old
-RefusedBy running (ended n) c ts old = (running ≡ true) × One ts old × Counted n c ts × Unsteady ts
+abbrev pub RefusedBy : (Told → Type 0) → Bool → Report → ℕ → List Told → List Told → Type 0
+RefusedBy F running silent c ts old = None ts old
+RefusedBy F running (ended n) c ts old = (running ≡ true) × One ts old × Counted n c ts × Unsteady ts × Tops F ts
 
 -- and what an answer says, where a calibration ran before it or none did
 abbrev pub SaysBy : Bool → Answer → ℕ → List Told → List Told → Type 0
@@ -139,7 +143,7 @@ SaysBy running Answer.More c ts old = None ts old
 SaysBy running Answer.Good c ts old = None ts old
 SaysBy running (Answer.Woken w) c ts old = ((running ≡ false) × None ts old) ⊎ ((running ≡ true) × One ts old × (c < 8) × Newest (Woken w) ts)
 SaysBy running (Answer.Reference r n) c ts old = (running ≡ true) × One ts old × Result r n c ts
-SaysBy running (Answer.Refused k) c ts old = RefusedBy running (reportOf k) c ts old
+SaysBy running (Answer.Refused k) c ts old = RefusedBy (Fits (numberOf k) (valuesOf k)) running (reportOf k) c ts old
 
 abbrev pub Says : List Event → Type 0
 Says [] = Unit {0}
@@ -251,11 +255,35 @@ result r n c ts e t =
     }
 
 -- the test at an end that is refused
-refusal : (x : Report) (c : ℕ) (ts old : List Told) → One ts old → length ts ≡ c → T (failed x ts) → RefusedBy true x c ts old
-refusal silent c ts old one e t = absurd t
-refusal (ended n) c ts old one e t =
+-- the level and the end of the newest answer
+topmost : (q : Wake → Bool) (x : End) → ((y : End) → T (woke q y) → x ≡ y) → (F : Told → Type 0) (l : ℕ) → F (told l x) → (ts : List Told) → T (top q l ts) → Tops F ts
+topmost q x is F l fit [] t = absurd t
+topmost q x is F l fit (u ∷ ts) t =
+    let e : l ≡ u .level = eqb→eq _ _ (and-l (eqb l (u .level)) (woke q (u .said)) t) in
+    let e′ : x ≡ u .said = is (u .said) (and-r (eqb l (u .level)) (woke q (u .said)) t) in
+    subst F (λ i. told (e i) (e′ i)) fit
+
+fitting : (k : Refusal) (ts : List Told) → T (failed k ts) → Tops (Fits (numberOf k) (valuesOf k)) ts
+fitting Short ts t = absurd t
+fitting Invalid ts t = absurd t
+fitting Unready ts t = absurd t
+fitting Busy ts t = absurd t
+fitting Refusal.Malformed ts t = absurd t
+fitting Unawaited ts t = absurd t
+fitting (ChipError code) ts t = absurd t
+fitting (LowestTimeout n) ts t =
+    subst (λ (m : ℕ). Tops (Fits 8 (m ∷ [])) ts) (sym (eqb→eq n 1 (and-l (eqb n 1) _ t))) (topmost isTimeout timeout is-timeout _ 0x00 lowest ts (and-r (eqb n 1) _ t))
+fitting (HighestTag n) ts t =
+    subst (λ (m : ℕ). Tops (Fits 9 (m ∷ [])) ts) (sym (eqb→eq n 2 (and-l (eqb n 2) _ t))) (topmost isTag tag is-tag _ 0xFC highest ts (and-r (eqb n 2) _ t))
+fitting (NoLevel n) ts t =
+    subst (λ (m : ℕ). Tops (Fits 10 (m ∷ [])) ts) (sym (eqb→eq n 8 (and-l (eqb n 8) _ t))) (topmost isTimeout timeout is-timeout _ 0x00 eighth ts (and-r (eqb n 8) _ t))
+fitting (CalibrationError code n) ts t = absurd t
+
+refusal : (F : Told → Type 0) (x : Report) (c : ℕ) (ts old : List Told) → One ts old → length ts ≡ c → T (counted x ts) → Tops F ts → RefusedBy F true x c ts old
+refusal F silent c ts old one e t fit = absurd t
+refusal F (ended n) c ts old one e t fit =
     let long : n ≡ length ts = eqb→eq n (length ts) (and-l (eqb n (length ts)) (strange ts) t) in
-    (refl, one, (long ∙ e, long), against ts (and-r (eqb n (length ts)) (strange ts) t))
+    (refl, one, (long ∙ e, long), against ts (and-r (eqb n (length ts)) (strange ts) t), fit)
 
 -- ---- an answer
 
@@ -334,8 +362,8 @@ put : {running : Bool} (h : List Event) (c : Call) (m : Ran Outcome) (es : List 
 put {running} h c m es e k = subst (λ (es′ : List Exchange). Holds running (m .answer) es′ (answers h)) (sym e) k
 
 -- a mild refusal says that no answer came
-mild-says : (running : Bool) (k : Refusal) (c : ℕ) (ts old : List Told) → mild k ≡ true → None ts old → RefusedBy running (reportOf k) c ts old
-mild-says running k c ts old m n = subst (λ (x : Report). RefusedBy running x c ts old) (sym (mild-silent k m)) n
+mild-says : (running : Bool) (k : Refusal) (c : ℕ) (ts old : List Told) → mild k ≡ true → None ts old → RefusedBy (Fits (numberOf k) (valuesOf k)) running (reportOf k) c ts old
+mild-says running k c ts old m n = subst (λ (x : Report). RefusedBy (Fits (numberOf k) (valuesOf k)) running x c ts old) (sym (mild-silent k m)) n
 
 unawaited : (w : Awaits) (es : List Exchange) → isSome w ≡ false → NowBy w es → NowBy none es
 unawaited none es f v = v
@@ -498,8 +526,9 @@ module _ (plan : Plan) (found : Search) (i : Interface) (state : State) (x y : E
           few = few-now;
           live = tt;
           says =
-              subst (λ (us : List Told). RefusedBy true (reportOf j) (length (trials (y ∷ es))) us old) (sym answered)
-              (refusal (reportOf j) (length (trials (y ∷ es))) ts old refl long test);
+              subst (λ (us : List Told). RefusedBy (Fits (numberOf j) (valuesOf j)) true (reportOf j) (length (trials (y ∷ es))) us old) (sym answered)
+              (refusal _ (reportOf j) (length (trials (y ∷ es))) ts old refl long (and-l (counted (reportOf j) ts) (failed j ts) test)
+              (fitting j ts (and-r (counted (reportOf j) ts) (failed j ts) test)));
         }
 
     -- the chip's error
@@ -511,8 +540,13 @@ module _ (plan : Plan) (found : Search) (i : Interface) (state : State) (x y : E
           live = subst (λ (c : Calibration). Live c (o .session .state) (y ∷ es)) (sym off) (subst (λ (z : Awaits). Free z (y ∷ es)) (sym rest) tt);
           says =
               subst (λ (z : Answer). SaysBy true z (length (trials (y ∷ es))) (answersIn (trials (y ∷ es))) old) (sym a)
-              (subst (λ (us : List Told). RefusedBy true (ended (found .commands)) (length (trials (y ∷ es))) us old) (sym answered)
-              (refl, refl, (sym many, sym (ask .heard)), λ f st ag. no-error code (f (found .level)) (sym q ∙ ag (found .level) e (List·Memᴰ·head refl))));
+              (subst (λ (us : List Told). RefusedBy (Fits 12 (code ∷ found .commands ∷ [])) true (ended (found .commands)) (length (trials (y ∷ es))) us old) (sym answered) (
+                refl,
+                refl,
+                (sym many, sym (ask .heard)),
+                λ f st ag. no-error code (f (found .level)) (sym q ∙ ag (found .level) e (List·Memᴰ·head refl)),
+                subst (λ (z : End). Fits 12 (code ∷ found .commands ∷ []) (told (found .level) z)) (sym q) (error code (found .commands) (found .level)),
+              ));
         }
       where
         no-error : (c : ℕ) (b : Bool) → Error c ≡ says b → ⊥

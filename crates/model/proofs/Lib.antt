@@ -13,6 +13,9 @@ pub mod Invariant
 pub mod Theorems
 pub mod Heeded
 pub mod Lives
+pub mod Tracking
+pub mod Feeding
+pub mod Giving
 pub mod Run
 pub mod Exactness
 pub mod Outcomes

@@ -39,7 +39,8 @@ use Rattle.model.specs.Calibration.{settingsAt, mostCommands, isTag}
 use Rattle.model.specs.Checks.{Passes, mild}
 use Rattle.model.specs.Session.{made, refuse, lent, isWaiting, isRunning, turned, outcomeBy, awaits, takes, checks, does, Call, power-on, pulse, request, reset, poll, read, calibrate, next, feed, step}
 use Rattle.model.specs.History.{Event, event, Passing, passingBy, passing, trials, exchanges, commands, answersIn, answers}
-use Rattle.model.specs.Talk.{isEnding, ends, isPower, Stops, leastOutput, Lives}
+use Rattle.model.specs.Tracked.{isPower}
+use Rattle.model.specs.Talk.{isEnding, ends, Stops, leastOutput, Lives}
 use Rattle.words.proofs.Words.{ways}
 use Rattle.model.proofs.Ordering.{passed, awaited, Quiet, unheard, ignored, quiet, by-step}
 use Rattle.model.proofs.Refusing.{allowed-at}
@@ -53,7 +54,7 @@ use Rattle.model.proofs.Theorems.{inv-of}
 abbrev Goes : Call → Ran Outcome → Type 0
 Goes c m = isRunning (m .answer .session .calibration) ≡ not (isPower (passingBy c (m .answer .answer) (m .answer .used) (m .bytes)) || ends (m .answer .answer))
 
-mild-goes : (k : Refusal) → mild k ≡ true → isEnding (numberOf k) ≡ false
+pub mild-goes : (k : Refusal) → mild k ≡ true → isEnding (numberOf k) ≡ false
 mild-goes Short m = refl
 mild-goes Invalid m = refl
 mild-goes Unready m = refl

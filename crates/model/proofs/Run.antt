@@ -1,56 +1,53 @@
--- A calibration that a steady chip answers ends with its eighth reply, however each reply is cut.
+-- A calibration that is driven, in any company: it ends within eight commands, and with a steady chip names the highest level that gives a tag.
 -- Assumes nothing.
-use Prim.Native.Nat.{ℕ, zero, suc, _+_, _≤_, _<_}
+use Prim.Native.Nat.{ℕ, suc, _+_, _≤_, _<_}
 use native.Mathlib.Omega.{arith}
-use mathlib.Core.Path.{_≡_, refl, sym, ap, subst, _∙_}
-use mathlib.Core.Bool.{Bool, true, false, not, true≢false}
+use mathlib.Core.Path.{_≡_, refl, sym, ap, ap₂, subst, _∙_}
+use mathlib.Core.Bool.{Bool, true, false, not, _||_, true≢false}
 use mathlib.Core.Logic.{_⊎_, inl, inr, ⊎-elim}
-use mathlib.Core.List.{List, [], _∷_, _++_, append-nil, append-assoc, List·Memᴰ·cases-cons, List·Memᴰ·not-nil}
+use mathlib.Core.List.{List, [], _∷_, _++_, append-assoc, append-nil, List·Memᴰ·cases-cons, List·Memᴰ·not-nil}
 use lib.ListN.{length}
-use borrow.Author.Tests.{le-ltb}
 use Rattle.model.specs.declared.Interface.{Interface}
 use Rattle.model.specs.declared.Refusal.{Refusal}
 use Rattle.model.specs.declared.Refusal.the-variants.{Short, Invalid, Unready, Busy, Malformed, Unawaited, ChipError, LowestTimeout, HighestTag, NoLevel, CalibrationError}
 use Rattle.model.specs.declared.Awaited.{Awaited}
 use Rattle.model.specs.declared.Phase.the-variants.{Begun}
 use Rattle.model.specs.declared.Progress.{Progress}
-use Rattle.model.specs.declared.Wake.{Wake}
-use Rattle.model.specs.declared.Wake.the-variants.{Timeout, Tag}
 use Rattle.model.specs.declared.End.{End}
 use Rattle.model.specs.declared.End.the-variants.{Good, Woken, Error}
 use Rattle.model.specs.declared.Step.{Step}
 use Rattle.model.specs.declared.Step.the-variants.{On as reading, Over}
 use Rattle.model.specs.declared.Verdict.{Verdict}
 use Rattle.model.specs.declared.Verdict.the-variants.{More, Ended, NoRoom}
-use Rattle.model.specs.declared.Place.{Place}
 use Rattle.model.specs.declared.Fed.{Fed}
 use Rattle.model.specs.declared.Plan.{Plan}
-use Rattle.model.specs.declared.Search.{Search}
 use Rattle.model.specs.declared.Calibration.{Calibration}
 use Rattle.model.specs.declared.Calibration.the-variants.{Off, On}
-use Rattle.model.specs.declared.Turn.{Turn}
-use Rattle.model.specs.declared.Turn.the-variants.{Goes, Names, Fails}
 use Rattle.model.specs.declared.State.{State}
 use Rattle.model.specs.declared.State.the-variants.{PowerUp, Ready, Selected, Waiting, Lost}
 use Rattle.model.specs.declared.Session.{Session}
 use Rattle.model.specs.declared.Answer.{Answer}
 use Rattle.model.specs.declared.Outcome.{Outcome}
-use Rattle.words.specs.Words.{pick, concat}
+use Rattle.words.specs.Words.{pick}
 use Rattle.words.specs.Contract.{Ran}
-use Rattle.model.specs.Refusals.{Report, ended, reportOf, numberOf}
-use Rattle.model.specs.Replies.{leastRoom, formOf, reached, verdictOf, fedFrom}
-use Rattle.model.specs.Calibration.{heard}
-use Rattle.model.specs.Session.{made, isRunning, turned, outcomeBy, outcomeOf, Awaits, none, some, isSome, awaits, does, Call, pulse, calibrate, next, feed, step}
-use Rattle.model.specs.History.{Event, Reached, event, turn, run, on, Exchange, exchange, fed, exchanges, trials, commands, levelOf, Told, told, answerBy, verdictIn, answersIn, answers}
-use Rattle.model.specs.Promises.{After, Steady, says, Agrees}
-use Rattle.model.specs.Talk.{isEnding, ends, leastOutput, eventOf, Cuts, Enough, newestLevel, tested, feeds, answered, asks, talk, lastBy, last, Named, Calibrates}
-use Rattle.model.proofs.Cable.{ledTo, Stands, NowBy, Now, over-fed}
-use Rattle.model.proofs.Idling.{Idled, wakes-so}
-use Rattle.model.proofs.Invariant.{Own, before, Free, Live, SaysBy, RefusedBy, Inv, decide, own-trials, fed-answers, fed-length, given-idle, keeps}
+use Rattle.model.specs.Refusals.{Report, ended, reportOf, numberOf, valuesOf}
+use Rattle.model.specs.Checks.{Passes}
+use Rattle.model.specs.Replies.{formOf, idled, reached, verdictOf, fedFrom}
+use Rattle.model.specs.Session.{made, isWaiting, isRunning, outcomeBy, Awaits, none, some, isSome, awaits, takes, continues, checks, does, Call, power-on, pulse, request, reset, poll, read, calibrate, next, feed, step}
+use Rattle.model.specs.History.{Event, Reached, turn, run, on, first, later, Passing, given, piece, power, nothing, passingBy, sourceIn, levelIn, Exchange, exchange, exchangesBy, exchanges, trials, commands, levelOf, Told, told, isAnswer, answerBy, verdictIn, answersIn, answers}
+use Rattle.model.specs.Promises.{After, Fits, Steady, says, Agrees}
+use Rattle.model.specs.Tracked.{isPower, awake, tracked, stateIn, known}
+use Rattle.model.specs.Talk.{isEnding, ends, leastOutput, passed, isFair, Fair, fedIn, allFed, anything, steadily, Replied, RepliedTo, Answered, Round, asked, talk, Driven, started, Within, lastBy, last, Named, Calibrates}
+use Rattle.model.proofs.Ordering.{by-step}
+use Rattle.model.proofs.Table.{completes}
+use Rattle.model.proofs.Cable.{ledTo, Stands, NowBy, Now, over-fed, now-of}
+use Rattle.model.proofs.Invariant.{Own, before, Free, Live, SaysBy, RefusedBy, Inv, decide, own-trials, fed-answers, fed-length, keeps}
 use Rattle.model.proofs.Theorems.{inv-of, highest}
-use Rattle.model.proofs.Lives.{goes-on, long-enough, does-it, next-sent, lives}
+use Rattle.model.proofs.Theorems as theorems
+use Rattle.model.proofs.Lives.{mild-goes, goes-on, does-it, lives}
+use Rattle.model.proofs.Tracking.{tracks, interfaces}
 
--- ---- one call more is still after a power-on
+-- ---- calls more are still after a power-on
 
 run-on : (r : Reached) (cs : List Call) (c : Call) → run r (cs ++ c ∷ []) ≡ turn (run r cs) c
 run-on r [] c = refl
@@ -59,39 +56,251 @@ run-on r (d ∷ cs) c = run-on (turn r d) cs c
 after-turn : (r : Reached) (c : Call) → After r → After (turn r c)
 after-turn r c (s, i, cs, p) = (s, i, cs ++ c ∷ [], run-on (on s i) cs c ∙ ap (λ (x : Reached). turn x c) p)
 
--- ---- what a reply does to the session
+after-run : (r : Reached) (cs : List Call) → After r → After (run r cs)
+after-run r [] a = a
+after-run r (c ∷ cs) a = after-run (turn r c) cs (after-turn r c a)
 
-turned-interface : (t : Turn) (plan : Plan) (w : Wake) (s : Session) (k : ℕ) (place : Place) → turned t plan w s k place .session .interface ≡ s .interface
-turned-interface (Goes found) plan w s k place = refl
-turned-interface (Names r n) plan w s k place = refl
-turned-interface (Fails j) plan w s k place = refl
+-- ---- fair calls
 
--- where a reference is named, the session is Ready, and no calibration runs
-named-turned : (t : Turn) (plan : Plan) (w : Wake) (s : Session) (k : ℕ) (place : Place) (r n : ℕ) → turned t plan w s k place .answer ≡ Answer.Reference r n
-    → turned t plan w s k place .session ≡ made (s .interface) Ready Off
-named-turned (Goes found) plan w s k place r n e = absurd (let z : _≡_ {A = ℕ} 0 1 = cc in omega arith)
-named-turned (Names r′ n′) plan w s k place r n e = refl
-named-turned (Fails j) plan w s k place r n e = absurd (let z : _≡_ {A = ℕ} 0 1 = cc in omega arith)
+-- the bytes xs joined those of the newest command
+pub record Grown (x : Exchange) (older : List Exchange) (xs : List ℕ) (es : List Exchange) : Type 0 where
+  pub used : ℕ
+  pub same : es ≡ exchange (x .owner) (x .awaited) (x .bytes ++ xs) used ∷ older
 
-module _ (i : Interface) (state : State) (plan : Plan) (found : Search) (a : Awaited) (selected : ℕ) where
-  abbrev running : Session
-  running = made i state (On plan found)
+none-joined : (x : Exchange) (older : List Exchange) → Grown x older [] (x ∷ older)
+none-joined x older =
+    record { used = x .used; same = ap (λ (ys : List ℕ). exchange (x .owner) (x .awaited) ys (x .used) ∷ older) (sym (append-nil (x .bytes))) }
 
-  taken-interface : (v : Verdict) (r : Fed) → outcomeBy v r running a selected .session .interface ≡ i
-  taken-interface More r = refl
-  taken-interface (Ended Good) r = refl
-  taken-interface (Ended (Woken w)) r = turned-interface (heard found w) plan w running (r .used) (r .place)
-  taken-interface (Ended (Error code)) r = refl
-  taken-interface (Ended (End.Malformed at b)) r = refl
-  taken-interface NoRoom r = refl
+grown-by : (x : Exchange) (older : List Exchange) (p : Passing) → isFair p ≡ true → Grown x older (fedIn p) (exchangesBy p (x ∷ older))
+grown-by x older (given o a) f = absurd (true≢false (sym f))
+grown-by x older (piece xs k) f = record { used = x .used + k; same = refl }
+grown-by x older power f = absurd (true≢false (sym f))
+grown-by x older nothing f = none-joined x older
 
-  named-ready : (v : Verdict) (r : Fed) (m n : ℕ) → outcomeBy v r running a selected .answer ≡ Answer.Reference m n → outcomeBy v r running a selected .session ≡ made i Ready Off
-  named-ready More r m n e = absurd (let z : _≡_ {A = ℕ} 0 1 = cc in omega arith)
-  named-ready (Ended Good) r m n e = absurd (let z : _≡_ {A = ℕ} 0 1 = cc in omega arith)
-  named-ready (Ended (Woken w)) r m n e = named-turned (heard found w) plan w running (r .used) (r .place) m n e
-  named-ready (Ended (Error code)) r m n e = absurd (let z : _≡_ {A = ℕ} 0 1 = cc in omega arith)
-  named-ready (Ended (End.Malformed at b)) r m n e = absurd (let z : _≡_ {A = ℕ} 0 1 = cc in omega arith)
-  named-ready NoRoom r m n e = absurd (let z : _≡_ {A = ℕ} 0 1 = cc in omega arith)
+grown : (r : Reached) (x : Exchange) (older : List Exchange) (cs : List Call) → exchanges (r .history) ≡ x ∷ older → Fair r cs → Grown x older (allFed r cs) (exchanges (run r cs .history))
+grown r x older [] e f = subst (Grown x older []) (sym e) (none-joined x older)
+grown r x older (c ∷ cs) e (f, fs) =
+    let p = passed r c in
+    let g : Grown x older (fedIn p) (exchangesBy p (exchanges (r .history))) = subst (λ (es : List Exchange). Grown x older (fedIn p) (exchangesBy p es)) (sym e) (grown-by x older p f) in
+    let rest = grown (turn r c) (exchange (x .owner) (x .awaited) (x .bytes ++ fedIn p) (g .used)) older cs (g .same) fs in
+    record {
+      used = rest .used;
+      same = rest .same ∙ ap (λ (ys : List ℕ). exchange (x .owner) (x .awaited) ys (rest .used) ∷ older) (append-assoc (x .bytes) (fedIn p) (allFed (turn r c) cs));
+    }
+
+fair-interface : (r : Reached) (c : Call) → isFair (passed r c) ≡ true → turn r c .session .interface ≡ r .session .interface
+fair-interface r (power-on i) f = absurd (true≢false (sym f))
+fair-interface r pulse f = interfaces (r .session) pulse
+fair-interface r (request c out) f = interfaces (r .session) (request c out)
+fair-interface r (reset out) f = interfaces (r .session) (reset out)
+fair-interface r (poll out) f = interfaces (r .session) (poll out)
+fair-interface r (read n out) f = interfaces (r .session) (read n out)
+fair-interface r (calibrate plan out) f = interfaces (r .session) (calibrate plan out)
+fair-interface r (next out) f = interfaces (r .session) (next out)
+fair-interface r (feed xs room) f = interfaces (r .session) (feed xs room)
+
+run-interface : (r : Reached) (cs : List Call) → Fair r cs → run r cs .session .interface ≡ r .session .interface
+run-interface r [] f = refl
+run-interface r (c ∷ cs) (f, fs) = run-interface (turn r c) cs fs ∙ fair-interface r c f
+
+-- ---- a command that is out, and one that is answered
+
+-- the c-th of its calibration, and nothing of its reply is in
+pub record Out (c : ℕ) (r : Reached) : Type 0 where
+  pub after : After r
+  pub newest : Exchange
+  pub older : List Exchange
+  pub same : exchanges (r .history) ≡ newest ∷ older
+  pub own : Own (newest .owner)
+  pub unread : newest .bytes ≡ []
+  pub many : suc (length (before (newest .owner) older)) ≡ c
+
+-- its reply was fed to its end
+pub record In (c : ℕ) (r : Reached) : Type 0 where
+  pub after : After r
+  pub newest : Exchange
+  pub older : List Exchange
+  pub same : exchanges (r .history) ≡ newest ∷ older
+  pub own : Own (newest .owner)
+  pub end : End
+  pub led : ledTo newest ≡ Over end
+  pub many : suc (length (before (newest .owner) older)) ≡ c
+
+answered-by : (chip : ℕ → End → Type 0) (r : Reached) (cs : List Call) {x : Exchange} {es : List Exchange} → exchanges (r .history) ≡ x ∷ es → Answered chip r cs → Replied chip x r cs
+answered-by chip r cs e a = subst (λ (zs : List Exchange). RepliedTo chip zs r cs) e a
+
+-- where the bytes of a reply lead that was fed whole
+led-to : {chip : ℕ → End → Type 0} {x : Exchange} {r : Reached} {cs : List Call} → x .bytes ≡ [] → (q : Replied chip x r cs)
+    → reached (formOf (x .awaited)) (reading Begun) (x .bytes ++ allFed r cs) ≡ Over (q .end)
+led-to {x = x} {r} {cs} e q =
+    ap (λ (ys : List ℕ). reached (formOf (x .awaited)) (reading Begun) (ys ++ allFed r cs)) e
+    ∙ ap (reached (formOf (x .awaited)) (reading Begun)) (q .whole) ∙ completes (q .well-formed) (q .after)
+
+in-by : (chip : ℕ → End → Type 0) {c : ℕ} (r : Reached) (cs : List Call) → Out c r → Answered chip r cs → In c (run r cs)
+in-by chip r cs o a =
+    let x = o .newest in
+    let q = answered-by chip r cs (o .same) a in
+    let g = grown r x (o .older) cs (o .same) (q .fair) in
+    record {
+      after = after-run r cs (o .after);
+      newest = exchange (x .owner) (x .awaited) (x .bytes ++ allFed r cs) (g .used);
+      older = o .older;
+      same = g .same;
+      own = o .own;
+      end = q .end;
+      led = led-to (o .unread) q;
+      many = o .many;
+    }
+
+counted : {c : ℕ} {r : Reached} → In c r → commands (r .history) ≡ c
+counted m = ap (λ (es : List Exchange). length (trials es)) (m .same) ∙ ap length (own-trials (m .newest .owner) (m .newest) (m .older) (m .own)) ∙ m .many
+
+rests : (w : Awaits) (x : Exchange) (e : End) → Stands w x → ledTo x ≡ Over e → w ≡ none
+rests none x e v q = refl
+rests (some p selected) x e v q = absurd (let z : Over e ≡ reading (p .phase) = sym q ∙ v .stands .1 in let y : _≡_ {A = ℕ} 0 1 = cc in omega arith)
+
+resting : {c : ℕ} {r : Reached} → In c r → awaits (r .session .state) ≡ none
+resting {r = r} m = rests (awaits (r .session .state)) (m .newest) (m .end) (subst (Now (r .session .state)) (m .same) (now-of r (m .after))) (m .led)
+
+-- the next command is due, unless it was the eighth
+due : {c : ℕ} {r : Reached} → In c r → isRunning (r .session .calibration) ≡ true
+    → (c < 8) × ((output : List ℕ) → leastOutput ≤ length output → (n : ℕ) × (step (r .session) (next output) .answer .answer ≡ Answer.Sent n))
+due {c} {r} m on =
+    ⊎-elim (λ (w, _). absurd (true≢false (sym w ∙ ap isSome (resting m))))
+    (λ (_, _, few, sends). (omega (arith, few, counted m), sends)) (lives r (m .after) on)
+
+-- and is given out
+next-out : {c : ℕ} {r : Reached} → In c r → isRunning (r .session .calibration) ≡ true → (output : List ℕ) → leastOutput ≤ length output → Out (suc c) (turn r (next output))
+next-out {c} {r} m on output big =
+    let o = step (r .session) (next output) in
+    let e = due m on .1 output big .1 in
+    record {
+      after = after-turn r (next output) (m .after);
+      newest = exchange (later (levelIn (o .bytes))) (idled (sourceIn (o .bytes))) [] 0;
+      older = exchanges (r .history);
+      same = ap (λ (a : Answer). exchangesBy (passingBy (next output) a (o .answer .used) (o .bytes)) (exchanges (r .history))) e;
+      own = tt;
+      unread = refl;
+      many = ap suc (counted m);
+    }
+
+start-out : (r : Reached) (plan : Plan) (output : List ℕ) → After r → Passes (checks (r .session) (calibrate plan output)) → Out 1 (turn r (calibrate plan output))
+start-out r plan output a p =
+    let c = calibrate plan output in
+    let o = step (r .session) c in
+    let e : o .answer .answer ≡ does (r .session) c .answer .answer = ap (λ (m : Ran Outcome). m .answer .answer) (does-it (r .session) c p) in
+    record {
+      after = after-turn r c a;
+      newest = exchange (first (levelIn (o .bytes))) (idled (sourceIn (o .bytes))) [] 0;
+      older = exchanges (r .history);
+      same = ap (λ (z : Answer). exchangesBy (passingBy c z (o .answer .used) (o .bytes)) (exchanges (r .history))) e;
+      own = tt;
+      unread = refl;
+      many = refl;
+    }
+
+-- ---- any chip
+
+goes-within : (ts : List Round) (c : ℕ) (r : Reached) → In c r → Driven anything r ts
+    → (commands (talk r ts .history) ≡ length ts + c) × (length ts + c ≤ 8) × (length ts + c ≡ 8 → isRunning (talk r ts .session .calibration) ≡ false)
+goes-within [] c r m d = (
+  counted m ∙ omega arith,
+  omega (arith, theorems.ends r (m .after), counted m),
+  λ e. decide (isRunning (r .session .calibration)) (λ on. absurd (omega (arith, due m on .0, e))) (λ off. off),
+)
+goes-within (t ∷ ts) c r m (on, big, a, d) =
+    let o = next-out m on (t .output) big in
+    let (many, few, end) = goes-within ts (suc c) (run (asked r t) (t .calls)) (in-by anything (asked r t) (t .calls) o a) d in
+    (many ∙ omega arith, omega (arith, few), λ e. end (omega (arith, e)))
+
+pub within : Within
+within r plan output cs s ts d =
+    let (many, few, end) = goes-within ts 1 (started r plan output cs) (in-by anything (turn r (calibrate plan output)) cs (start-out r plan output (s .after) (s .passes)) (s .answered)) d in
+    (many ∙ omega arith, omega (arith, few), λ e. end (omega (arith, e)))
+
+-- ---- calls that end nothing
+
+-- where nothing is awaited no answer ends a calibration
+unawaited-done : (s : Session) → isWaiting (s .state) ≡ false → (c : Call) → Passes (checks s c) → ends (does s c .answer .answer) ≡ false
+unawaited-done s w (power-on i) p = refl
+unawaited-done s w pulse p = refl
+unawaited-done s w (request c out) p = refl
+unawaited-done s w (reset out) p = refl
+unawaited-done s w (poll out) p = refl
+unawaited-done s w (read n out) p = refl
+unawaited-done s w (calibrate plan out) p = refl
+unawaited-done s w (next out) p = go (s .calibration)
+  where
+    go : (c : Calibration) → ends (continues c s out .answer .answer) ≡ false
+    go Off = refl
+    go (On plan found) = refl
+unawaited-done s w (feed [] room) p = refl
+unawaited-done s w (feed (x ∷ xs) room) (q, _) = absurd (true≢false (ap not (sym w) ∙ q))
+
+unawaited : (s : Session) (c : Call) → isWaiting (s .state) ≡ false → ends (step s c .answer .answer) ≡ false
+unawaited s c w = by-step (λ (m : Ran Outcome). ends (m .answer .answer) ≡ false) s c (λ k m _. mild-goes k m) (unawaited-done s w c)
+
+-- a fair call starts none
+abbrev Stays : Call → Ran Outcome → Type 0
+Stays c m = isFair (passingBy c (m .answer .answer) (m .answer .used) (m .bytes)) ≡ true → isRunning (m .answer .session .calibration) ≡ false
+
+module _ (i : Interface) (state : State) where
+  abbrev idle : Session
+  idle = made i state Off
+
+  off-read : (v : Verdict) (r : Fed) (a : Awaited) (selected : ℕ) → isRunning (outcomeBy v r idle a selected .session .calibration) ≡ false
+  off-read More r a selected = refl
+  off-read (Ended Good) r a selected = refl
+  off-read (Ended (Woken w)) r a selected = refl
+  off-read (Ended (Error code)) r a selected = refl
+  off-read (Ended (End.Malformed at b)) r a selected = refl
+  off-read NoRoom r a selected = refl
+
+  off-taken : (w : Awaits) (xs room : List ℕ) → isRunning (takes w idle xs room .answer .session .calibration) ≡ false
+  off-taken none xs room = refl
+  off-taken (some p selected) xs room = let r = fedFrom (p .awaited) (p .phase) xs room .answer in off-read (r .verdict) r (p .awaited) selected
+
+  off-done : (c : Call) → Stays c (does idle c)
+  off-done (power-on j) f = refl
+  off-done pulse f = refl
+  off-done (request c out) f = refl
+  off-done (reset out) f = refl
+  off-done (poll out) f = refl
+  off-done (read n out) f = refl
+  off-done (calibrate plan out) f = absurd (true≢false (sym f))
+  off-done (next out) f = refl
+  off-done (feed [] room) f = refl
+  off-done (feed (x ∷ xs) room) f = off-taken (awaits state) (x ∷ xs) room
+
+off-stays : (s : Session) (c : Call) → isRunning (s .calibration) ≡ false → Stays c (step s c)
+off-stays s c off = go (s .calibration) off
+  where
+    go : (k : Calibration) → isRunning k ≡ false → Stays c (step (made (s .interface) (s .state) k) c)
+    go Off e = by-step (Stays c) (made (s .interface) (s .state) Off) c (λ k _ _ _. refl) (λ _. off-done (s .interface) (s .state) c)
+    go (On plan found) e = absurd (true≢false e)
+
+fair-power : (p : Passing) → isFair p ≡ true → isPower p ≡ false
+fair-power (given o a) f = refl
+fair-power (piece xs k) f = refl
+fair-power power f = absurd (true≢false (sym f))
+fair-power nothing f = refl
+
+-- nothing is awaited: commands and answers are as they were
+quiet-counts : (p : Passing) (es : List Exchange) → isFair p ≡ true → NowBy none es
+    → (length (trials (exchangesBy p es)) ≡ length (trials es)) × (answersIn (trials (exchangesBy p es)) ≡ answersIn (trials es))
+quiet-counts (given o a) es f n = absurd (true≢false (sym f))
+quiet-counts (piece xs k) es f n = (fed-length xs k es, fed-answers xs k es n)
+quiet-counts power es f n = absurd (true≢false (sym f))
+quiet-counts nothing es f n = (refl, refl)
+
+last-still : (a b : Answer) → ends a ≡ false → lastBy a b ≡ b
+last-still Answer.Done b e = refl
+last-still (Answer.Sent n) b e = refl
+last-still Answer.More b e = refl
+last-still Answer.Good b e = refl
+last-still (Answer.Woken w) b e = refl
+last-still (Answer.Reference r n) b e = absurd (true≢false e)
+last-still (Answer.Refused k) b e = ap (λ (t : Bool). pick t (Answer.Refused k) b) e
 
 -- a refusal that ends a calibration is 5, or it reports the commands
 ending : (k : Refusal) → isEnding (numberOf k) ≡ true → (k ≡ Malformed) ⊎ ((n : ℕ) × (reportOf k ≡ ended n))
@@ -107,6 +316,22 @@ ending (HighestTag n) e = inr (n, refl)
 ending (NoLevel n) e = inr (n, refl)
 ending (CalibrationError code n) e = inr (n, refl)
 
+-- while a calibration's command is the newest, a reply is awaited only as long as it runs
+free-not : (w : Awaits) (x : Exchange) (es : List Exchange) → Own (x .owner) → Free w (x ∷ es) → w ≡ none
+free-not none x es own f = refl
+free-not (some p selected) x es own f = absurd (subst Own f own)
+
+off-free : (c : Calibration) (state : State) (es : List Exchange) → isRunning c ≡ false → Live c state es → Free (awaits state) es
+off-free Off state es e l = l
+off-free (On plan found) state es e l = absurd (true≢false e)
+
+none-waits : (state : State) → awaits state ≡ none → isWaiting state ≡ false
+none-waits state e = ap isSome e
+
+waits-none : (w : Awaits) → isSome w ≡ false → w ≡ none
+waits-none none e = refl
+waits-none (some p selected) e = absurd (true≢false e)
+
 -- ---- a steady chip
 
 module _ (f : ℕ → Bool) (st : Steady f) where
@@ -119,17 +344,11 @@ module _ (f : ℕ → Bool) (st : Steady f) where
       (List·Memᴰ·cases-cons m)
 
   -- the call that ends it names the highest level with a tag
-  pub record Told-so (h : List Event) (e : Event) : Type 0 where
-    pub reference : ℕ
-    pub count : ℕ
-    pub answer : e .answer ≡ Answer.Reference reference count
-    pub named : Named f (e ∷ h)
-
   named-by : (h : List Event) (e : Event) → SaysBy true (e .answer) (commands (e ∷ h)) (answers (e ∷ h)) (answers h) → Agrees f (answers (e ∷ h))
-      → ends (e .answer) ≡ true → (e .answer ≡ Answer.Refused Malformed → ⊥) → Told-so h e
+      → ends (e .answer) ≡ true → (e .answer ≡ Answer.Refused Malformed → ⊥) → Named f (e ∷ h)
   named-by h e said ag stop well = go (e .answer) refl said stop
     where
-      go : (a : Answer) → e .answer ≡ a → SaysBy true a (commands (e ∷ h)) (answers (e ∷ h)) (answers h) → ends a ≡ true → Told-so h e
+      go : (a : Answer) → e .answer ≡ a → SaysBy true a (commands (e ∷ h)) (answers (e ∷ h)) (answers h) → ends a ≡ true → Named f (e ∷ h)
       go Answer.Done q x t = absurd (true≢false (sym t))
       go (Answer.Sent n) q x t = absurd (true≢false (sym t))
       go Answer.More q x t = absurd (true≢false (sym t))
@@ -138,405 +357,261 @@ module _ (f : ℕ → Bool) (st : Steady f) where
       go (Answer.Reference r n) q (_, one, res) t =
           record {
             reference = r;
-            count = n;
-            answer = q;
-            named =
-                record {
-                  reference = r;
-                  told-so = ap (λ (a : Answer). lastBy a (last h)) q ∙ ap (Answer.Reference r) (res .eight);
-                  highest = highest f st r n _ _ res ag;
-                  eight-commands = sym (res .counted .0) ∙ res .eight;
-                  eight-answers = sym (res .counted .1) ∙ res .eight;
-                };
+            told-so = ap (λ (a : Answer). lastBy a (last h)) q ∙ ap (Answer.Reference r) (res .eight);
+            highest = highest f st r n _ _ res ag;
+            eight-commands = sym (res .counted .0) ∙ res .eight;
+            eight-answers = sym (res .counted .1) ∙ res .eight;
           }
       go (Answer.Refused k) q x t =
           ⊎-elim (λ m. absurd (well (q ∙ ap Answer.Refused m)))
-          (λ (n, m). absurd (subst (λ (y : Report). RefusedBy true y (commands (e ∷ h)) (answers (e ∷ h)) (answers h)) m x .3 f st ag)) (ending k t)
+          (λ (n, m). absurd (subst (λ (y : Report). RefusedBy (Fits (numberOf k) (valuesOf k)) true y (commands (e ∷ h)) (answers (e ∷ h)) (answers h)) m x .3 f st ag)) (ending k t)
 
-  module _ (i : Interface) (rooms : List Event → List ℕ) (big : Enough leastRoom rooms) where
-    -- it runs, or it named that level
-    pub record Fine (r : Reached) : Type 0 where
-      pub after : After r
-      pub interface : r .session .interface ≡ i
-      pub sound : (isRunning (r .session .calibration) ≡ true) ⊎ ((r .session ≡ made i Ready Off) × Named f (r .history))
+  -- it runs, or it named that level
+  abbrev Sound : Reached → Type 0
+  Sound r = (isRunning (r .session .calibration) ≡ true) ⊎ ((isRunning (r .session .calibration) ≡ false) × Named f (r .history))
 
-    -- the newest command is the calibration's, the n answers before it were the chip's, and its bytes, with those that come, are the chip's reply
-    pub record Coming (n : ℕ) (es : List Exchange) (rest : List ℕ) : Type 0 where
-      pub newest : Exchange
-      pub older : List Exchange
-      pub same : es ≡ newest ∷ older
-      pub own : Own (newest .owner)
-      pub agrees : Agrees f (answersIn (before (newest .owner) older))
-      pub many : length (answersIn (before (newest .owner) older)) ≡ n
-      pub reply : reached (formOf (newest .awaited)) (reading Begun) (newest .bytes ++ rest) ≡ Over (says (f (levelOf (newest .owner))))
+  -- the newest command is the calibration's, the n answers before it were the chip's, and its bytes, with those that come, are the chip's reply
+  pub record Coming (n : ℕ) (es : List Exchange) (rest : List ℕ) : Type 0 where
+    pub newest : Exchange
+    pub older : List Exchange
+    pub same : es ≡ newest ∷ older
+    pub own : Own (newest .owner)
+    pub agrees : Agrees f (answersIn (before (newest .owner) older))
+    pub many : length (answersIn (before (newest .owner) older)) ≡ n
+    pub reply : reached (formOf (newest .awaited)) (reading Begun) (newest .bytes ++ rest) ≡ Over (says (f (levelOf (newest .owner))))
 
-    is-answer : (b : Bool) → Rattle.model.specs.History.isAnswer (says b) ≡ true
-    is-answer true = refl
-    is-answer false = refl
+  is-answer : (b : Bool) → isAnswer (says b) ≡ true
+  is-answer true = refl
+  is-answer false = refl
 
-    -- of all the bytes, or of some at their beginning, the answers are the chip's
-    module _ (n : ℕ) (es : List Exchange) (rest : List ℕ) (c : Coming n es rest) where
-      abbrev x : Exchange
-      x = c .newest
+  -- of all the bytes, or of some at their beginning, the answers are the chip's
+  module _ (n : ℕ) (es : List Exchange) (rest : List ℕ) (c : Coming n es rest) where
+    abbrev x : Exchange
+    x = c .newest
 
-      abbrev l : ℕ
-      l = levelOf (x .owner)
+    abbrev l : ℕ
+    l = levelOf (x .owner)
 
-      abbrev old : List Told
-      old = answersIn (before (x .owner) (c .older))
+    abbrev old : List Told
+    old = answersIn (before (x .owner) (c .older))
 
-      -- an end that was reached is the reply's
-      end-is : (e : End) → ledTo x ≡ Over e → e ≡ says (f l)
-      end-is e q = let z : Over e ≡ Over (says (f l)) = sym (over-fed x e rest q) ∙ c .reply in cc
+    -- an end that was reached is the reply's
+    end-is : (e : End) → ledTo x ≡ Over e → e ≡ says (f l)
+    end-is e q = let z : Over e ≡ Over (says (f l)) = sym (over-fed x e rest q) ∙ c .reply in cc
 
-      answers-as : (v : Verdict) → verdictIn x ≡ v → answersIn (trials es) ≡ answerBy v l old
-      answers-as v e = ap (λ (zs : List Exchange). answersIn (trials zs)) (c .same) ∙ ap answersIn (own-trials (x .owner) x (c .older) (c .own)) ∙ ap (λ (w : Verdict). answerBy w l old) e
+    answers-as : (v : Verdict) → verdictIn x ≡ v → answersIn (trials es) ≡ answerBy v l old
+    answers-as v e = ap (λ (zs : List Exchange). answersIn (trials zs)) (c .same) ∙ ap answersIn (own-trials (x .owner) x (c .older) (c .own)) ∙ ap (λ (w : Verdict). answerBy w l old) e
 
-      answered-as : (e : End) → ledTo x ≡ Over e → answersIn (trials es) ≡ told l (says (f l)) ∷ old
-      answered-as e q =
-          answers-as (Ended (says (f l))) (ap verdictOf q ∙ ap Ended (end-is e q)) ∙ ap (λ (b : Bool). pick b (told l (says (f l)) ∷ old) old) (is-answer (f l))
+    answered-as : (e : End) → ledTo x ≡ Over e → answersIn (trials es) ≡ told l (says (f l)) ∷ old
+    answered-as e q =
+        answers-as (Ended (says (f l))) (ap verdictOf q ∙ ap Ended (end-is e q)) ∙ ap (λ (b : Bool). pick b (told l (says (f l)) ∷ old) old) (is-answer (f l))
 
-      agrees-so : Agrees f (answersIn (trials es))
-      agrees-so = go (ledTo x) refl
-        where
-          go : (t : Step) → ledTo x ≡ t → Agrees f (answersIn (trials es))
-          go (reading q) e = subst (Agrees f) (sym (answers-as More (ap verdictOf e))) (c .agrees)
-          go (Over e) q = subst (Agrees f) (sym (answered-as e q)) (agrees-more l old (c .agrees))
+    agrees-so : Agrees f (answersIn (trials es))
+    agrees-so = go (ledTo x) refl
+      where
+        go : (t : Step) → ledTo x ≡ t → Agrees f (answersIn (trials es))
+        go (reading q) e = subst (Agrees f) (sym (answers-as More (ap verdictOf e))) (c .agrees)
+        go (Over e) q = subst (Agrees f) (sym (answered-as e q)) (agrees-more l old (c .agrees))
 
-    -- a piece joins the bytes of the newest command, whatever it is answered
-    joins : (h : List Event) (o : Ran Outcome) (xs : List ℕ) → exchanges (event (feed xs (rooms h)) (o .answer) (o .bytes) ∷ h) ≡ fed xs (o .answer .used) (exchanges h)
-    joins h o xs = ap (λ (b : Bool). fed (pick b [] xs) (o .answer .used) (exchanges h)) (le-ltb (length (rooms h)) leastRoom (big h))
-
-    comes-on : (n : ℕ) (es : List Exchange) (xs rest : List ℕ) (k : ℕ) → Coming n es (xs ++ rest) → Coming n (fed xs k es) rest
-    comes-on n es xs rest k c =
-        let x = c .newest in
+    comes-on : (ys : List ℕ) (p : Passing) → isFair p ≡ true → rest ≡ fedIn p ++ ys → Coming n (exchangesBy p es) ys
+    comes-on ys p fair split =
+        let g : Grown x (c .older) (fedIn p) (exchangesBy p es) =
+        subst (λ (zs : List Exchange). Grown x (c .older) (fedIn p) (exchangesBy p zs)) (sym (c .same)) (grown-by x (c .older) p fair) in
         record {
-          newest = exchange (x .owner) (x .awaited) (x .bytes ++ xs) (x .used + k);
+          newest = exchange (x .owner) (x .awaited) (x .bytes ++ fedIn p) (g .used);
           older = c .older;
-          same = ap (fed xs k) (c .same);
+          same = g .same;
           own = c .own;
           agrees = c .agrees;
           many = c .many;
-          reply = ap (reached (formOf (x .awaited)) (reading Begun)) (append-assoc (x .bytes) xs rest) ∙ c .reply;
+          reply =
+              ap (reached (formOf (x .awaited)) (reading Begun)) (append-assoc (x .bytes) (fedIn p) ys ∙ ap (λ (zs : List ℕ). x .bytes ++ zs) (sym split)) ∙ c .reply;
         }
 
-    -- ---- a piece
+  -- ---- one call
 
-    abbrev at : Session → List Event → Reached
-    at s h = record { session = s; history = h }
+  module _ (n : ℕ) (r : Reached) (a : After r) (c : Call) (rest : List ℕ) (fair : isFair (passed r c) ≡ true) (coming : Coming n (exchanges (r .history)) (fedIn (passed r c) ++ rest)) where
+    abbrev h : List Event
+    h = r .history
 
-    -- nothing is awaited, and the session stays
-    still : (c : Calibration) (h : List Event) (xs : List ℕ) → Fine (at (made i Ready c) h) → NowBy none (exchanges h) → Fine (turn (at (made i Ready c) h) (feed xs (rooms h)))
-    still c h xs v n = go xs
-      where
-        kept : (xs : List ℕ) (o : Ran Outcome) → step (made i Ready c) (feed xs (rooms h)) ≡ o → o .answer .session ≡ made i Ready c → ends (o .answer .answer) ≡ false
-            → ((a : Answer) → lastBy (o .answer .answer) a ≡ a) → Fine (turn (at (made i Ready c) h) (feed xs (rooms h)))
-        kept xs o e s quiet l =
-            let r = at (made i Ready c) h in
-            let r′ = turn r (feed xs (rooms h)) in
-            let s′ : r′ .session ≡ made i Ready c = ap (λ (m : Ran Outcome). m .answer .session) e ∙ s in
-            let es = joins h (step (made i Ready c) (feed xs (rooms h))) xs in
-            let k = step (made i Ready c) (feed xs (rooms h)) .answer .used in
-            record {
-              after = after-turn r (feed xs (rooms h)) (v .after);
-              interface = ap (λ (z : Session). z .interface) s′;
-              sound =
-                  ⊎-elim (λ on. inl (ap (λ (z : Session). isRunning (z .calibration)) s′ ∙ on))
-                  (λ (q, m). inr (
-                    s′ ∙ q,
-                    record {
-                      reference = m .reference;
-                      told-so = ap (λ (z : Answer). lastBy z (last h)) (ap (λ (y : Ran Outcome). y .answer .answer) e) ∙ l (last h) ∙ m .told-so;
-                      highest = m .highest;
-                      eight-commands = ap (λ (zs : List Exchange). length (trials zs)) es ∙ fed-length xs k (exchanges h) ∙ m .eight-commands;
-                      eight-answers = ap (λ (zs : List Exchange). length (answersIn (trials zs))) es ∙ ap length (fed-answers xs k (exchanges h) n) ∙ m .eight-answers;
-                    },
-                  ))
-                  (v .sound);
-            }
+    abbrev r′ : Reached
+    r′ = turn r c
 
-        go : (xs : List ℕ) → Fine (turn (at (made i Ready c) h) (feed xs (rooms h)))
-        go [] = kept [] _ refl refl refl (λ a. refl)
-        go (y ∷ ys) = kept (y ∷ ys) _ refl refl refl (λ a. refl)
+    abbrev said : Answer
+    said = step (r .session) c .answer .answer
 
-    -- a reply is awaited
-    module _ (p : Progress) (selected : ℕ) (plan : Plan) (found : Search) (h : List Event) (a : After (at (made i (Waiting p selected) (On plan found)) h)) (y : ℕ) (ys rest : List ℕ) (n : ℕ)
-        (coming : Coming n (exchanges h) ((y ∷ ys) ++ rest)) where
-      abbrev xs : List ℕ
-      xs = y ∷ ys
+    now-coming : Coming n (exchanges (r′ .history)) rest
+    now-coming = comes-on n (exchanges h) _ coming rest (passed r c) fair refl
 
-      abbrev s : Session
-      s = made i (Waiting p selected) (On plan found)
+    -- where nothing is awaited
+    still : isWaiting (r .session .state) ≡ false → Sound r → Sound r′
+    still w (inl on) =
+        inl (goes-on (r .session) on c ∙ ap₂ (λ (p q : Bool). not (p || q)) (fair-power (passed r c) fair) (unawaited (r .session) c w))
+    still w (inr (off, m)) =
+        let now : NowBy none (exchanges h) = subst (λ (z : Awaits). NowBy z (exchanges h)) (waits-none (awaits (r .session .state)) w) (now-of r a) in
+        let counts = quiet-counts (passed r c) (exchanges h) fair now in
+        inr (
+          off-stays (r .session) c off fair,
+          record {
+            reference = m .reference;
+            told-so = last-still said (last h) (unawaited (r .session) c w) ∙ m .told-so;
+            highest = m .highest;
+            eight-commands = counts .0 ∙ m .eight-commands;
+            eight-answers = ap length (counts .1) ∙ m .eight-answers;
+          },
+        )
 
-      abbrev after-it : Reached
-      after-it = turn (at s h) (feed xs (rooms h))
+    -- where the reply is awaited the calibration runs
+    module _ (on : isRunning (r .session .calibration) ≡ true) (p : Progress) (selected : ℕ) (waits : awaits (r .session .state) ≡ some p selected) where
+      v : Inv (r .session) h
+      v = inv-of r a
 
-      v : Inv s h
-      v = inv-of (at s h) a
+      after-inv : Inv (r′ .session) (r′ .history)
+      after-inv = inv-of r′ (after-turn r c a)
 
-      after-inv : Inv (after-it .session) (after-it .history)
-      after-inv = inv-of after-it (after-turn (at s h) (feed xs (rooms h)) a)
+      told-by : SaysBy true said (commands (r′ .history)) (answers (r′ .history)) (answers h)
+      told-by = subst (λ (b : Bool). SaysBy b said (commands (r′ .history)) (answers (r′ .history)) (answers h)) on (keeps (r .session) h v c .says)
 
-      read : step s (feed xs (rooms h)) ≡ outcomeOf s p selected xs (rooms h)
-      read = does-it s (feed xs (rooms h)) (refl, (le-ltb (length (rooms h)) leastRoom (big h), tt))
+      none-yet : answers h ≡ old n (exchanges h) _ coming
+      none-yet =
+          answers-as n (exchanges h) _ coming More
+          (ap verdictOf (subst (λ (z : Awaits). NowBy z (coming .newest ∷ coming .older)) waits (subst (Now (r .session .state)) (coming .same) (v .now)) .stands .1))
 
-      now-coming : Coming n (exchanges (after-it .history)) rest
-      now-coming = subst (λ (es : List Exchange). Coming n es rest) (sym (joins h (step s (feed xs (rooms h))) xs)) (comes-on n (exchanges h) xs rest (step s (feed xs (rooms h)) .answer .used) coming)
-
-      -- while the reply is awaited there is no answer
-      none-yet : answers h ≡ old n (exchanges h) (xs ++ rest) coming
-      none-yet = answers-as n (exchanges h) (xs ++ rest) coming More (ap verdictOf (subst (NowBy (some p selected)) (coming .same) (v .now) .stands .1))
+      runs-on : isRunning (r′ .session .calibration) ≡ not (ends said)
+      runs-on = goes-on (r .session) on c ∙ ap (λ (b : Bool). not (b || ends said)) (fair-power (passed r c) fair)
 
       -- refusal 5 would leave no answer behind a reply that has one
-      not-malformed : step s (feed xs (rooms h)) .answer .answer ≡ Answer.Refused Malformed → ⊥
+      not-malformed : said ≡ Answer.Refused Malformed → ⊥
       not-malformed q =
-          let o = step s (feed xs (rooms h)) in
-          let off : isRunning (after-it .session .calibration) ≡ false = goes-on s refl (feed xs (rooms h)) ∙ ap (λ (z : Answer). not (ends z)) q in
-          let none-more : length (answers (after-it .history)) ≤ length (answers h) =
-          subst (λ (z : Answer). SaysBy true z (commands (after-it .history)) (answers (after-it .history)) (answers h)) q (keeps s h v (feed xs (rooms h)) .says) in
-          by-state (after-it .session .calibration) (awaits (after-it .session .state)) off none-more (after-inv .now) (free-of (after-it .session .calibration) (after-it .session .state) off (after-inv .live))
-        where
-          free-of : (c : Calibration) (state : State) → isRunning c ≡ false → Live c state (exchanges (after-it .history)) → Free (awaits state) (exchanges (after-it .history))
-          free-of Off state e live = live
-          free-of (On plan′ found′) state e live = absurd (true≢false e)
+          let off : isRunning (r′ .session .calibration) ≡ false = runs-on ∙ ap (λ (z : Answer). not (ends z)) q in
+          let few : length (answers (r′ .history)) ≤ length (answers h) = subst (λ (z : Answer). SaysBy true z (commands (r′ .history)) (answers (r′ .history)) (answers h)) q told-by in
+          let es = exchanges (r′ .history) in
+          let free = subst (Free (awaits (r′ .session .state))) (now-coming .same) (off-free (r′ .session .calibration) (r′ .session .state) es off (after-inv .live)) in
+          let quiet = free-not (awaits (r′ .session .state)) (now-coming .newest) (now-coming .older) (now-coming .own) free in
+          let stood = subst (λ (z : Awaits). NowBy z (now-coming .newest ∷ now-coming .older)) quiet (subst (Now (r′ .session .state)) (now-coming .same) (after-inv .now)) .stands in
+          let came = answered-as n es rest now-coming (stood .0) (stood .1) in
+          omega (arith, few, ap length came, ap length none-yet, now-coming .many, coming .many)
 
-          by-state : (c : Calibration) (w : Awaits) → isRunning c ≡ false → length (answers (after-it .history)) ≤ length (answers h)
-              → NowBy w (exchanges (after-it .history)) → Free w (exchanges (after-it .history)) → ⊥
-          by-state c none e few m free =
-              let stood = subst (NowBy none) (now-coming .same) m .stands in
-              let came = answered-as n (exchanges (after-it .history)) rest now-coming (stood .0) (stood .1) in
-              omega (arith, few, ap length came, ap length none-yet, now-coming .many, coming .many)
-          by-state c (some q sel) e few m free = subst Own (subst (Free (some q sel)) (now-coming .same) free) (now-coming .own)
+      heeded : Sound r′
+      heeded =
+          decide (ends said)
+          (λ stop. inr (runs-on ∙ ap not stop, named-by h _ told-by (agrees-so n (exchanges (r′ .history)) rest now-coming) stop not-malformed))
+          (λ goes. inl (runs-on ∙ ap not goes))
 
-      piece-read : Fine after-it
-      piece-read =
-          decide (ends (step s (feed xs (rooms h)) .answer .answer))
-          (λ stop.
-          let e : Event = event (feed xs (rooms h)) (step s (feed xs (rooms h)) .answer) (step s (feed xs (rooms h)) .bytes) in
-          let m = named-by h e (keeps s h v (feed xs (rooms h)) .says) (agrees-so n (exchanges (e ∷ h)) rest now-coming) stop not-malformed in
-          let r : Fed = fedFrom (p .awaited) (p .phase) xs (rooms h) .answer in
-          record {
-            after = after-turn (at s h) (feed xs (rooms h)) a;
-            interface = same-interface;
-            sound =
-                inr (
-                  ap (λ (z : Ran Outcome). z .answer .session) read
-                      ∙ named-ready i (Waiting p selected) plan found (p .awaited) selected (r .verdict) r (m .reference) (m .count) (sym (ap (λ (z : Ran Outcome). z .answer .answer) read) ∙ m .answer),
-                  m .named,
-                );
-          })
-          (λ goes.
-          record {
-            after = after-turn (at s h) (feed xs (rooms h)) a;
-            interface = same-interface;
-            sound = inl (goes-on s refl (feed xs (rooms h)) ∙ ap not goes);
-          })
-        where
-          same-interface : after-it .session .interface ≡ i
-          same-interface =
-              let r : Fed = fedFrom (p .awaited) (p .phase) xs (rooms h) .answer in
-              ap (λ (z : Ran Outcome). z .answer .session .interface) read ∙ taken-interface i (Waiting p selected) plan found (p .awaited) selected (r .verdict) r
-
-    -- ---- any piece, and all pieces
-
-    one-piece : (n : ℕ) (r : Reached) (xs rest : List ℕ) → Fine r → Coming n (exchanges (r .history)) (xs ++ rest) → Fine (turn r (feed xs (rooms (r .history))))
-    one-piece n r xs rest v c =
-        subst (λ (z : Session). Fine (turn (at z (r .history)) (feed xs (rooms (r .history))))) {x = made i (r .session .state) (r .session .calibration)} {y = r .session}
-        (ap (λ (j : Interface). made j (r .session .state) (r .session .calibration)) (sym (v .interface)))
-        (go (r .session .calibration) (r .session .state) xs c v′)
+    one-call : Sound r → Sound r′
+    one-call s = go (awaits (r .session .state)) refl s
       where
-        h : List Event
-        h = r .history
+        go : (w : Awaits) → awaits (r .session .state) ≡ w → Sound r → Sound r′
+        go none e s = still (ap isSome e) s
+        go (some p selected) e (inl on) = heeded on p selected e
+        go (some p selected) e (inr (off, _)) =
+            let free = subst (Free (awaits (r .session .state))) (coming .same) (off-free (r .session .calibration) (r .session .state) (exchanges h) off (inv-of r a .live)) in
+            let quiet = free-not (awaits (r .session .state)) (coming .newest) (coming .older) (coming .own) free in
+            absurd (true≢false (ap isSome (sym e ∙ quiet)))
 
-        v′ : Fine (at (made i (r .session .state) (r .session .calibration)) h)
-        v′ = subst (λ (j : Interface). Fine (at (made j (r .session .state) (r .session .calibration)) h)) (v .interface) v
+  all-calls : (n : ℕ) (cs : List Call) (r : Reached) (rest : List ℕ) → After r → Sound r → Fair r cs → Coming n (exchanges (r .history)) (allFed r cs ++ rest)
+      → Sound (run r cs) × Coming n (exchanges (run r cs .history)) rest
+  all-calls n [] r rest a s fs c = (s, c)
+  all-calls n (c ∷ cs) r rest a s (f, fs) coming =
+      let split = append-assoc (fedIn (passed r c)) (allFed (turn r c) cs) rest in
+      let coming′ = subst (Coming n (exchanges (r .history))) split coming in
+      all-calls n cs (turn r c) rest (after-turn r c a) (one-call n r a c (allFed (turn r c) cs ++ rest) f coming′ s) fs (now-coming n r a c (allFed (turn r c) cs ++ rest) f coming′)
 
-        ready-only : (c : Calibration) (state : State) → ((isRunning c ≡ true) ⊎ ((made i state c ≡ made i Ready Off) × Named f h)) → isRunning c ≡ false → state ≡ Ready
-        ready-only c state (inl on) off = absurd (true≢false (sym on ∙ off))
-        ready-only c state (inr (q, _)) off = ap (λ (z : Session). z .state) q
+  -- ---- a round
 
-        go : (c : Calibration) (state : State) (xs : List ℕ) → Coming n (exchanges h) (xs ++ rest) → Fine (at (made i state c) h) → Fine (turn (at (made i state c) h) (feed xs (rooms h)))
-        go Off state xs coming w =
-            let q : state ≡ Ready = ready-only Off state (w .sound) refl in
-            subst (λ (z : State). Fine (at (made i z Off) h) → Fine (turn (at (made i z Off) h) (feed xs (rooms h)))) (sym q) (λ u. still Off h xs u (inv-of (at (made i Ready Off) h) (u .after) .now)) w
-        go (On plan found) state xs coming w = by state xs coming w (inv-of (at (made i state (On plan found)) h) (w .after))
-          where
-            by : (state : State) (xs : List ℕ) → Coming n (exchanges h) (xs ++ rest) → Fine (at (made i state (On plan found)) h) → Inv (made i state (On plan found)) h
-                → Fine (turn (at (made i state (On plan found)) h) (feed xs (rooms h)))
-            by PowerUp xs coming w u = absurd (u .live)
-            by Ready xs coming w u = still (On plan found) h xs w (u .now)
-            by (Selected protocol) xs coming w u = absurd (u .live)
-            by (Waiting p selected) [] coming w u =
-                record { after = after-turn (at (made i (Waiting p selected) (On plan found)) h) (feed [] (rooms h)) (w .after); interface = refl; sound = inl refl }
-            by (Waiting p selected) (y ∷ ys) coming w u = piece-read p selected plan found h (w .after) y ys rest n coming
-            by Lost xs coming w u = absurd (u .live)
+  -- the command is answered, as the chip does, behind n answers that were the chip's too
+  pub record Heard (i : Interface) (n : ℕ) (r : Reached) : Type 0 where
+    pub within : In (suc n) r
+    pub interface : r .session .interface ≡ i
+    pub sound : Sound r
+    pub agrees : Agrees f (answers (r .history))
+    pub many : length (answers (r .history)) ≡ suc n
+    pub tells : within .end ≡ says (f (levelOf (within .newest .owner)))
 
-    -- the whole reply was fed: one answer more, and nothing is awaited
-    pub record Replied (n : ℕ) (r : Reached) : Type 0 where
-      pub fine : Fine r
-      pub resting : awaits (r .session .state) ≡ none
-      pub agrees : Agrees f (answers (r .history))
-      pub many : length (answers (r .history)) ≡ suc n
-
-    rests : (w : Awaits) (x : Exchange) (e : End) → Stands w x → ledTo x ≡ Over e → w ≡ none
-    rests none x e v q = refl
-    rests (some p selected) x e v q = absurd (let z : Over e ≡ reading (p .phase) = sym q ∙ v .stands .1 in let y : _≡_ {A = ℕ} 0 1 = cc in omega arith)
-
-    whole : (n : ℕ) (r : Reached) → Fine r → Coming n (exchanges (r .history)) [] → Replied n r
-    whole n r v c =
-        let x = c .newest in
-        let led : ledTo x ≡ Over (says (f (levelOf (x .owner)))) = ap (reached (formOf (x .awaited)) (reading Begun)) (sym (append-nil (x .bytes))) ∙ c .reply in
-        record {
-          fine = v;
-          resting = rests (awaits (r .session .state)) x _ (subst (Now (r .session .state)) (c .same) (inv-of r (v .after) .now)) led;
-          agrees = agrees-so n (exchanges (r .history)) [] c;
-          many = ap length (answered-as n (exchanges (r .history)) [] c _ led) ∙ ap suc (c .many);
-        }
-
-    all-pieces : (n : ℕ) (pieces : List (List ℕ)) (r : Reached) → Fine r → Coming n (exchanges (r .history)) (concat pieces) → Replied n (feeds rooms r pieces)
-    all-pieces n [] r v c = whole n r v c
-    all-pieces n (xs ∷ pieces) r v c =
-        let o = step (r .session) (feed xs (rooms (r .history))) in
-        all-pieces n pieces (turn r (feed xs (rooms (r .history)))) (one-piece n r xs (concat pieces) v c)
-        (subst (λ (es : List Exchange). Coming n es (concat pieces)) (sym (joins (r .history) o xs)) (comes-on n (exchanges (r .history)) xs (concat pieces) (o .answer .used) c))
-
--- ---- eight replies
-
-module _ (f : ℕ → Bool) (st : Steady f) (cuts : ℕ → Bool → List (List ℕ)) (cut : Cuts cuts) (rooms outputs : List Event → List ℕ)
-    (big : Enough leastRoom rooms) (wide : Enough leastOutput outputs) (i : Interface) where
-  -- what is to be shown of the run's end
-  abbrev Ends : Reached → Type 0
-  Ends r = Named f (r .history) × (r .session ≡ made i Ready Off)
-
-  -- a command was given out by the newest call, behind n of its calibration, and all answers before it were the chip's
-  pub record Out (n : ℕ) (r : Reached) : Type 0 where
-    pub fine : Fine f st i rooms big r
-    pub running : isRunning (r .session .calibration) ≡ true
-    pub newest : Exchange
-    pub older : List Exchange
-    pub same : exchanges (r .history) ≡ newest ∷ older
-    pub unread : newest .bytes ≡ []
-    pub own : Own (newest .owner)
-    pub idles : Idled (newest .awaited)
-    pub agrees : Agrees f (answersIn (before (newest .owner) older))
-    pub many : length (answersIn (before (newest .owner) older)) ≡ n
-
-  event-is : (b : Bool) → eventOf b ≡ pick b 0x02 0x01
-  event-is true = refl
-  event-is false = refl
-
-  says-is : (b : Bool) → Woken (pick b Tag Timeout) ≡ says b
-  says-is true = refl
-  says-is false = refl
-
-  replied : (k n : ℕ) (r : Reached) → Out n r → Replied f st i rooms big n (answered f cuts rooms outputs k r)
-  replied k n r o =
+  heard-by : (i : Interface) (n : ℕ) (r : Reached) (cs : List Call) → (o : Out (suc n) r) → r .session .interface ≡ i → isRunning (r .session .calibration) ≡ true
+      → Agrees f (answersIn (before (o .newest .owner) (o .older))) → length (answersIn (before (o .newest .owner) (o .older))) ≡ n → Answered (steadily f) r cs → Heard i n (run r cs)
+  unfolding answered-by in-by
+  heard-by i n r cs o e on ag many a =
       let x = o .newest in
-      let b : Bool = f (tested (r .history)) in
-      let at-level : tested (r .history) ≡ levelOf (x .owner) = ap newestLevel (o .same) in
-      let bytes : x .bytes ++ concat (cuts k b) ≡ 0x00 ∷ 0x01 ∷ pick b 0x02 0x01 ∷ cut k b .0 =
-      ap (λ (ys : List ℕ). ys ++ concat (cuts k b)) (o .unread) ∙ cut k b .1 ∙ ap (λ (z : ℕ). 0x00 ∷ 0x01 ∷ z ∷ cut k b .0) (event-is b) in
-      all-pieces f st i rooms big n (cuts k b) r (o .fine)
-      (record {
+      let q = answered-by (steadily f) r cs (o .same) a in
+      let led = led-to (o .unread) q ∙ ap Over (q .chosen) in
+      let coming : Coming n (exchanges (r .history)) (allFed r cs ++ []) = record {
         newest = x;
         older = o .older;
         same = o .same;
         own = o .own;
-        agrees = o .agrees;
-        many = o .many;
-        reply = wakes-so (x .awaited) (o .idles) (x .bytes ++ concat (cuts k b)) b (cut k b .0) bytes ∙ ap Over (says-is b) ∙ ap (λ (l : ℕ). Over (says (f l))) at-level;
-      })
+        agrees = ag;
+        many = many;
+        reply = ap (λ (ys : List ℕ). reached (formOf (x .awaited)) (reading Begun) (x .bytes ++ ys)) (append-nil (allFed r cs)) ∙ led;
+      } in
+      let (s, c) = all-calls n cs r [] (o .after) (inl on) (q .fair) coming in
+      let es = exchanges (run r cs .history) in
+      let whole = ap (reached (formOf (c .newest .awaited)) (reading Begun)) (sym (append-nil (c .newest .bytes))) ∙ c .reply in
+      record {
+        within = in-by (steadily f) r cs o a;
+        interface = run-interface r cs (q .fair) ∙ e;
+        sound = s;
+        agrees = agrees-so n es [] c;
+        many = ap length (answered-as n es [] c _ whole) ∙ ap suc (c .many);
+        tells = q .chosen;
+      }
 
-  -- after the eighth answer none runs
-  at-end : (r : Reached) → Replied f st i rooms big 7 r → Ends r
-  at-end r m =
-      ⊎-elim
-      (λ on. absurd (⊎-elim (λ (w, _). true≢false (sym w ∙ ap isSome (m .resting))) (λ (_, t, few, _). omega (arith, t, few, m .many)) (lives r (m .fine .after) on)))
-      (λ (q, n). (n, q))
-      (m .fine .sound)
+  -- ---- its end
 
-  -- before it the next command is due
-  next-out : (n : ℕ) (r : Reached) → suc n < 8 → Replied f st i rooms big n r → Out (suc n) (asks f cuts rooms outputs r)
-  next-out n r few m =
-      ⊎-elim (λ on. go (r .session .calibration) (r .session .state) on (m .fine .interface) m)
-      (λ (_, named). absurd (omega (arith, few, m .many, named .eight-answers))) (m .fine .sound)
-    where
-      h : List Event
-      h = r .history
+  tracked-ready : (b : Bool) (a : Awaited) (before : State) → tracked (Ended (says b)) a before ≡ Ready
+  tracked-ready true a before = refl
+  tracked-ready false a before = refl
 
-      go : (c : Calibration) (state : State) → isRunning c ≡ true → r .session .interface ≡ i
-          → Replied f st i rooms big n (record { session = made (r .session .interface) state c; history = h })
-          → Out (suc n) (turn (record { session = made (r .session .interface) state c; history = h }) (next (outputs h)))
-      go Off state on e m = absurd (true≢false (sym on))
-      go (On plan found) state on e m = by state (inv-of (record { session = made (r .session .interface) state (On plan found); history = h }) (m .fine .after)) m
-        where
-          j : Interface
-          j = r .session .interface
+  known-ready : (state : State) → known state ≡ Ready → state ≡ Ready
+  known-ready PowerUp e = e
+  known-ready Ready e = e
+  known-ready (Selected protocol) e = e
+  known-ready (Waiting p selected) e = absurd (true≢false (ap isWaiting e))
+  known-ready Lost e = e
 
-          by : (state : State) → Inv (made j state (On plan found)) h → Replied f st i rooms big n (record { session = made j state (On plan found); history = h })
-              → Out (suc n) (turn (record { session = made j state (On plan found); history = h }) (next (outputs h)))
-          by PowerUp v m = absurd (v .live)
-          by Ready v m = sent (exchanges h) refl (v .live)
-            where
-              r₀ : Reached
-              r₀ = record { session = made j Ready (On plan found); history = h }
+  off-is : (c : Calibration) → isRunning c ≡ false → c ≡ Off
+  off-is Off e = refl
+  off-is (On plan found) e = absurd (true≢false e)
 
-              sent : (es : List Exchange) → es ≡ exchanges h → Live (On plan found) Ready es → Out (suc n) (turn r₀ (next (outputs h)))
-              sent [] q l = absurd l
-              sent (x ∷ es) q (_, d) =
-                  let o : step (made j Ready (On plan found)) (next (outputs h)) ≡ does (made j Ready (On plan found)) (next (outputs h)) =
-                  next-sent j plan found (outputs h) (omega (arith, d .left)) (wide h) in
-                  subst (λ (z : Ran Outcome). Out (suc n) (record { session = z .answer .session; history = event (next (outputs h)) (z .answer) (z .bytes) ∷ h })) (sym o)
-                  (record {
-                    fine =
-                        record {
-                          after = subst (λ (z : Ran Outcome). After (record { session = z .answer .session; history = event (next (outputs h)) (z .answer) (z .bytes) ∷ h })) o (after-turn r₀ (next (outputs h)) (m .fine .after));
-                          interface = e;
-                          sound = inl refl;
-                        };
-                    running = refl;
-                    newest = _;
-                    older = exchanges h;
-                    same = refl;
-                    unread = refl;
-                    own = tt;
-                    idles = given-idle j plan (found .level) _;
-                    agrees = m .agrees;
-                    many = m .many;
-                  })
-          by (Selected protocol) v m = absurd (v .live)
-          by (Waiting p selected) v m = absurd (true≢false (ap isSome (m .resting)))
-          by Lost v m = absurd (v .live)
+  module _ (i : Interface) (n : ℕ) (r : Reached) (m : Heard i n r) where
+    ready : r .session .state ≡ Ready
+    ready =
+        let x = m .within .newest in
+        known-ready (r .session .state)
+        (tracks r (m .within .after)
+        ∙ ap (stateIn (awake (r .history))) (m .within .same)
+        ∙ ap (λ (t : Step). tracked (verdictOf t) (x .awaited) (stateIn (awake (r .history)) (m .within .older))) (m .within .led ∙ ap Over (m .tells))
+        ∙ tracked-ready (f (levelOf (x .owner))) (x .awaited) (stateIn (awake (r .history)) (m .within .older)))
 
-  talks : (k n : ℕ) → k + n ≡ 7 → (r : Reached) → Out n r → Ends (talk f cuts rooms outputs k r)
-  talks zero n e r o = at-end (answered f cuts rooms outputs 0 r) (subst (λ (m : ℕ). Replied f st i rooms big m (answered f cuts rooms outputs 0 r)) {x = n} {y = 7} (omega arith) (replied 0 n r o))
-  talks (suc k) n e r o =
-      talks k (suc n) (omega arith) (asks f cuts rooms outputs (answered f cuts rooms outputs (suc k) r))
-      (next-out n (answered f cuts rooms outputs (suc k) r) (omega arith) (replied (suc k) n r o))
+    ended-so : isRunning (r .session .calibration) ≡ false → r .session ≡ made i Ready Off
+    ended-so off =
+        let e₁ = m .interface in
+        let e₂ = ready in
+        let e₃ = off-is (r .session .calibration) off in
+        λ k. made (e₁ k) (e₂ k) (e₃ k)
+
+  goes-steadily : (i : Interface) (ts : List Round) (n : ℕ) (r : Reached) → Heard i n r → Driven (steadily f) r ts
+      → ((length ts + n < 7) × (isRunning (talk r ts .session .calibration) ≡ true))
+      ⊎ ((length ts + n ≡ 7) × Named f (talk r ts .history) × (talk r ts .session ≡ made i Ready Off))
+  unfolding next-out
+  goes-steadily i [] n r m d =
+      ⊎-elim (λ on. inl (omega (arith, due (m .within) on .0), on))
+      (λ (off, named). inr (omega (arith, named .eight-answers, m .many), named, ended-so i n r m off)) (m .sound)
+  goes-steadily i (t ∷ ts) n r m (on, big, a, d) =
+      let o = next-out (m .within) on (t .output) big in
+      let sent = due (m .within) on .1 (t .output) big .1 in
+      let z = step (r .session) (next (t .output)) in
+      let runs = goes-on (r .session) on (next (t .output)) ∙ ap (λ (y : Answer). not (isPower (passingBy (next (t .output)) y (z .answer .used) (z .bytes)) || ends y)) sent in
+      let m′ = heard-by i (suc n) (asked r t) (t .calls) o (interfaces (r .session) (next (t .output)) ∙ m .interface) runs (m .agrees) (m .many) a in
+      ⊎-elim (λ (few, goes). inl (omega (arith, few), goes)) (λ (all, named, end). inr (omega (arith, all), named, end))
+      (goes-steadily i ts (suc n) (run (asked r t) (t .calls)) m′ d)
 
 pub calibrates : Calibrates
-calibrates f st cuts cut rooms outputs big wide plan few i s =
-    let r : Reached = turn (on s i) pulse in
-    let h : List Event = r .history in
-    let c : Call = calibrate plan (outputs h) in
-    let o : step (made i Ready Off) c ≡ does (made i Ready Off) c =
-    does-it (made i Ready Off) c (refl, (refl, (le-ltb 3 (plan .prescaler) few, long-enough i plan 0x00 (outputs h) (wide h)))) in
-    talks f st cuts cut rooms outputs big wide i 7 0 refl (turn r c)
-    (subst (λ (z : Ran Outcome). Out f st cuts cut rooms outputs big wide i 0 (record { session = z .answer .session; history = event c (z .answer) (z .bytes) ∷ h })) (sym o)
-    (record {
-      fine =
-          record {
-            after = subst (λ (z : Ran Outcome). After (record { session = z .answer .session; history = event c (z .answer) (z .bytes) ∷ h })) o (s, i, pulse ∷ c ∷ [], refl);
-            interface = refl;
-            sound = inl refl;
-          };
-      running = refl;
-      newest = _;
-      older = exchanges h;
-      same = refl;
-      unread = refl;
-      own = tt;
-      idles = given-idle i plan 0x00 _;
-      agrees = λ l x m. absurd (List·Memᴰ·not-nil m);
-      many = refl;
-    }))
+unfolding start-out
+calibrates f st r plan output cs s ts d =
+    let c = calibrate plan output in
+    let o = start-out r plan output (s .after) (s .passes) in
+    let runs : isRunning (turn r c .session .calibration) ≡ true = ap (λ (m : Ran Outcome). isRunning (m .answer .session .calibration)) (does-it (r .session) c (s .passes)) in
+    let m = heard-by f st (r .session .interface) 0 (turn r c) cs o (interfaces (r .session) c) runs (λ l x m. absurd (List·Memᴰ·not-nil m)) refl (s .answered) in
+    ⊎-elim (λ (few, goes). inl (omega (arith, few), goes)) (λ (all, named, end). inr (omega (arith, all), named, end))
+    (goes-steadily f st (r .session .interface) ts 0 (started r plan output cs) m d)

@@ -29,7 +29,7 @@ use Rattle.model.specs.declared.Session.{Session}
 use Rattle.model.specs.declared.Answer.{Answer}
 use Rattle.words.specs.Words.{Pastes, Bytes, concat}
 use Rattle.words.specs.Contract.{Ran, OneAnswer, OneOutcome}
-use Rattle.model.specs.Frames.{Command, idleData, frame, allowed, wrapped, Transfer, write, readCommand, commandOf, Writes, Reads, Receives, Flagged, Gathers, Allows, Prescales}
+use Rattle.model.specs.Frames.{Command, idleData, frame, allowed, wrapped, Transfer, write, readCommand, commandOf, Writes, Reads, ReadsFirst, Receives, Flagged, Gathers, Allows, Prescales}
 use Rattle.model.specs.Replies.{leastRoom, Reply, Meaning, meaning, hasData, reply, begun, feed, dataOf, Feeds, Chooses}
 use Rattle.model.specs.Refusals.{number, bandNumber}
 use Rattle.model.specs.Calibration.{band, Sets, Hears, Guards}
@@ -190,6 +190,7 @@ pub record OneEach : Type 0 where
   pub pastes : (buffer src : List ℕ) (at : ℕ) → OneAnswer (Pastes buffer src at)
   pub writes : (i : Interface) (t : Transfer) (out : List ℕ) → OneOutcome (Writes i t out)
   pub reads : (xs : List ℕ) → OneAnswer (Reads xs)
+  pub reads-first : (xs : List ℕ) → OneAnswer (ReadsFirst xs)
   pub receives : (xs : List ℕ) → OneAnswer (Receives xs)
   pub flagged : (b : ℕ) → OneAnswer (Flagged b)
   pub gathers : (xs : List ℕ) → OneAnswer (Gathers xs)

@@ -1,4 +1,4 @@
--- Parts that fit stand one behind the other.
+-- Parts that fit stand one behind the other; and what is written is one thing.
 -- Assumes nothing.
 use Prim.Native.Nat.{ℕ, _+_, _≤_}
 use native.Mathlib.Omega.{arith}
@@ -9,8 +9,9 @@ use lib.Seq.{paste, take-length, take-paste, length-paste}
 use borrow.Author.Tests.{le-leb}
 use Rattle.words.specs.Words.{concat}
 use Rattle.words.specs.Contract.{Ran}
+use Rattle.words.proofs.Contract.{one-outcome}
 use Rattle.text.specs.Writing.{placed, written}
-use Rattle.text.specs.Claims.{line, Joined}
+use Rattle.text.specs.Claims.{line, Joined, OneText}
 
 -- one part that fits
 fitting : (text part : List ℕ) (at : ℕ) → at + length part ≤ length text
@@ -34,3 +35,6 @@ joined text at (part ∷ parts) h =
           ∙ append-assoc (take at text) part (concat parts),
       ap (λ (w : Ran ℕ). written (w .bytes) (w .answer) parts .answer) one ∙ more .1 ∙ omega arith,
     )
+
+pub one-text : OneText
+one-text text at parts r r′ exit exit′ p q = one-outcome (written text at parts) r r′ exit exit′ (p .is) (q .is)

@@ -1,13 +1,13 @@
--- What is promised of writing: parts stand one behind the other.
+-- What is promised of writing: parts stand one behind the other, and one outcome is allowed.
 -- Assumes nothing.
 use Prim.Native.Nat.{ℕ, _+_, _≤_}
 use mathlib.Core.Path.{_≡_}
 use mathlib.Core.List.{List, _++_}
 use lib.ListN.{length}
 use Rattle.words.specs.Words.{concat}
-use Rattle.words.specs.Contract.{Ran}
+use Rattle.words.specs.Contract.{Ran, OneOutcome}
 use Rattle.lines.specs.Lines.{fore}
-use Rattle.text.specs.Writing.{written}
+use Rattle.text.specs.Writing.{written, Puts}
 
 -- a text up to the place behind what was written
 abbrev pub line : Ran ℕ → List ℕ
@@ -18,3 +18,7 @@ abbrev pub Joined : Type 0
 Joined =
     (text : List ℕ) (at : ℕ) (parts : List (List ℕ)) → at + length (concat parts) ≤ length text
     → (line (written text at parts) ≡ fore text at ++ concat parts) × (written text at parts .answer ≡ at + length (concat parts))
+
+-- writing parts allows one answer, and one content of the text
+abbrev pub OneText : Type 0
+OneText = (text : List ℕ) (at : ℕ) (parts : List (List ℕ)) → OneOutcome (Puts text at parts)
