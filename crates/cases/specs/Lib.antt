@@ -17,3 +17,4 @@ pub mod Ending
 pub mod Histories
 pub mod Chips
 pub mod Company
+pub mod Small
