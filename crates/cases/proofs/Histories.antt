@@ -1,81 +1,54 @@
 -- How calibrations end, and what histories say of them, by computation.
 -- Assumes nothing.
-use mathlib.Core.Path.{refl}
+use mathlib.Core.Path.{_≡_, refl}
+use Rattle.model.specs.declared.Interface.{Interface}
 use Rattle.model.specs.declared.Interface.the-variants.{Spi, Uart}
 use Rattle.cases.specs.Ending.{GoesOn, Ends, EveryEnd}
 use Rattle.cases.specs.Histories.{Read, EveryReading, Last, Driven}
 
-goes-on-uart : GoesOn Uart
-goes-on-uart = record { sessions = refl; cut = refl }
+-- over UART and over SPI
+over-both : {A : Type 0} (f g : Interface → A) → f Uart ≡ g Uart → f Spi ≡ g Spi → (i : Interface) → f i ≡ g i
+over-both f g u s Uart = u
+over-both f g u s Spi = s
 
-goes-on-spi : GoesOn Spi
-goes-on-spi = record { sessions = refl; cut = refl }
+goes-on : GoesOn
+goes-on = record { sessions = over-both _ _ refl refl; cut = over-both _ _ refl refl }
 
-ends-uart : Ends Uart
-ends-uart =
+ends : Ends
+ends =
     record {
-      by-an-answer = refl;
-      by-an-error = refl;
-      by-a-malformed-byte = refl;
-      by-a-reference = refl;
-      cut = refl;
-      by-power = refl;
-      not-by-a-pulse = refl;
-    }
-
-ends-spi : Ends Spi
-ends-spi =
-    record {
-      by-an-answer = refl;
-      by-an-error = refl;
-      by-a-malformed-byte = refl;
-      by-a-reference = refl;
-      cut = refl;
-      by-power = refl;
-      not-by-a-pulse = refl;
+      by-an-answer = over-both _ _ refl refl;
+      by-an-error = over-both _ _ refl refl;
+      by-a-malformed-byte = over-both _ _ refl refl;
+      by-a-reference = over-both _ _ refl refl;
+      cut = over-both _ _ refl refl;
+      by-power = over-both _ _ refl refl;
+      not-by-a-pulse = over-both _ _ refl refl;
     }
 
 pub every-end : EveryEnd
-every-end = (goes-on-uart, goes-on-spi, ends-uart, ends-spi, refl)
+every-end = (goes-on, ends, refl)
 
-read-uart : Read Uart
-read-uart =
+read : Read
+read =
     record {
-      none = refl;
-      begun = refl;
-      in-the-third = refl;
-      answered = refl;
-      error-code = refl;
-      malformed-byte = refl;
-      not-whole = refl;
-      among-others = refl;
-      ended = refl;
-      again = refl;
-      powered = refl;
-      powered-before = refl;
-      request-refused = refl;
-    }
-
-read-spi : Read Spi
-read-spi =
-    record {
-      none = refl;
-      begun = refl;
-      in-the-third = refl;
-      answered = refl;
-      error-code = refl;
-      malformed-byte = refl;
-      not-whole = refl;
-      among-others = refl;
-      ended = refl;
-      again = refl;
-      powered = refl;
-      powered-before = refl;
-      request-refused = refl;
+      none = over-both _ _ refl refl;
+      begun = over-both _ _ refl refl;
+      in-the-third = over-both _ _ refl refl;
+      answered = over-both _ _ refl refl;
+      error-code = over-both _ _ refl refl;
+      malformed-byte = over-both _ _ refl refl;
+      not-whole = over-both _ _ refl refl;
+      among-others = over-both _ _ refl refl;
+      ended = over-both _ _ refl refl;
+      again = over-both _ _ refl refl;
+      powered = over-both _ _ refl refl;
+      powered-before = over-both _ _ refl refl;
+      request-refused = over-both _ _ refl refl;
     }
 
 pub every-reading : EveryReading
-every-reading = (read-uart, read-spi, record { spi = refl; uart = refl })
+every-reading = (read, record { spi = refl; uart = refl })
 
 pub last : Last
 last = record { answers = refl; by-refusals = refl; by-answers = refl; none = refl }

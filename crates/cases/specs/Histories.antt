@@ -56,40 +56,40 @@ disturbed =
     feed (0x00 ∷ 0x01 ∷ []) narrow ∷ poll room ∷ read 3 room ∷ feed (0x00 ∷ []) room ∷ request idn room ∷ pulse ∷ feed [] room ∷
     feed (0x01 ∷ 0x02 ∷ 0x98 ∷ []) room ∷ feed (0x55 ∷ []) room ∷ next (replicate 15 0xEE) ∷ reset [] ∷ []
 
-pub record Read (i : Interface) : Type 0 where
-  pub none : readOff i (pulse ∷ []) ≡ readings [] 0 []
-  pub begun : readOff i begins ≡ readings (trial (first 0x00) [] 0 ∷ []) 1 []
-  pub in-the-third :
+pub record Read : Type 0 where
+  pub none : (i : Interface) → readOff i (pulse ∷ []) ≡ readings [] 0 []
+  pub begun : (i : Interface) → readOff i begins ≡ readings (trial (first 0x00) [] 0 ∷ []) 1 []
+  pub in-the-third : (i : Interface) →
       readOff i third ≡
       readings (trial (later 0x7C) [] 0 ∷ trial (later 0xFC) (0x00 ∷ 0x01 ∷ 0x01 ∷ []) 3 ∷ trial (first 0x00) (0x00 ∷ 0x01 ∷ 0x02 ∷ 0x99 ∷ []) 3 ∷ []) 3
       (told 0xFC timeout ∷ told 0x00 tag ∷ [])
-  pub answered :
+  pub answered : (i : Interface) →
       readOff i (third ++ feed (0x00 ∷ 0x01 ∷ []) room ∷ feed (0x02 ∷ 0x97 ∷ []) room ∷ []) ≡
       readings (
       trial (later 0x7C) (0x00 ∷ 0x01 ∷ 0x02 ∷ 0x97 ∷ []) 3 ∷ trial (later 0xFC) (0x00 ∷ 0x01 ∷ 0x01 ∷ []) 3 ∷
       trial (first 0x00) (0x00 ∷ 0x01 ∷ 0x02 ∷ 0x99 ∷ []) 3 ∷ []) 3
       (told 0x7C tag ∷ told 0xFC timeout ∷ told 0x00 tag ∷ [])
-  pub error-code :
+  pub error-code : (i : Interface) →
       readOff i (begins ++ feed (0x8D ∷ []) room ∷ feed (0x00 ∷ 0x96 ∷ []) room ∷ []) ≡
       readings (trial (first 0x00) (0x8D ∷ 0x00 ∷ 0x96 ∷ []) 2 ∷ []) 1 (told 0x00 (Error 0x8D) ∷ [])
   -- no answer: it is malformed, or not whole
-  pub malformed-byte :
+  pub malformed-byte : (i : Interface) →
       readOff i (begins ++ feed (0x00 ∷ 0x02 ∷ 0x95 ∷ []) room ∷ []) ≡ readings (trial (first 0x00) (0x00 ∷ 0x02 ∷ 0x95 ∷ []) 2 ∷ []) 1 []
-  pub not-whole : readOff i (begins ++ feed (0x00 ∷ 0x01 ∷ []) room ∷ []) ≡ readings (trial (first 0x00) (0x00 ∷ 0x01 ∷ []) 2 ∷ []) 1 []
-  pub among-others :
+  pub not-whole : (i : Interface) → readOff i (begins ++ feed (0x00 ∷ 0x01 ∷ []) room ∷ []) ≡ readings (trial (first 0x00) (0x00 ∷ 0x01 ∷ []) 2 ∷ []) 1 []
+  pub among-others : (i : Interface) →
       readOff i disturbed ≡ readings (trial (first 0x00) (0x00 ∷ 0x01 ∷ 0x02 ∷ 0x98 ∷ 0x55 ∷ []) 3 ∷ []) 1 (told 0x00 tag ∷ [])
   -- a calibration that ended, a request after it, and another start, with p = 1
-  pub ended :
+  pub ended : (i : Interface) →
       readOff i (begins ++ feed (0x00 ∷ 0x01 ∷ 0x01 ∷ []) room ∷ request echo room ∷ feed (0x55 ∷ 0x94 ∷ []) room ∷ []) ≡
       readings (exchange requested toEcho (0x55 ∷ 0x94 ∷ []) 1 ∷ trial (first 0x00) (0x00 ∷ 0x01 ∷ 0x01 ∷ []) 3 ∷ []) 1 (told 0x00 timeout ∷ [])
-  pub again :
+  pub again : (i : Interface) →
       readOff i (begins ++ feed (0x82 ∷ 0x00 ∷ []) room ∷ calibrate (planned 1) room ∷ feed (0x00 ∷ []) room ∷ []) ≡
       readings (exchange (first 0x00) (toIdle 0x43) (0x00 ∷ []) 1 ∷ trial (first 0x00) (0x82 ∷ 0x00 ∷ []) 2 ∷ []) 1 []
-  pub powered : readOff i (third ++ power-on i ∷ []) ≡ readings [] 0 []
-  pub powered-before :
+  pub powered : (i : Interface) → readOff i (third ++ power-on i ∷ []) ≡ readings [] 0 []
+  pub powered-before : (i : Interface) →
       readOff i (third ++ power-on i ∷ pulse ∷ request idn room ∷ feed (0x00 ∷ 0x0F ∷ []) room ∷ []) ≡
       readings (exchange requested toIdn (0x00 ∷ 0x0F ∷ []) 2 ∷ []) 0 []
-  pub request-refused : readOff i (request idn room ∷ []) ≡ readings [] 0 []
+  pub request-refused : (i : Interface) → readOff i (request idn room ∷ []) ≡ readings [] 0 []
 
 pub record ByReset : Type 0 where
   -- over SPI a reset ends it, over UART it is refused
@@ -97,7 +97,7 @@ pub record ByReset : Type 0 where
   pub uart : readOff Uart (begins ++ reset room ∷ feed (0x00 ∷ []) room ∷ []) ≡ readings (trial (first 0x00) (0x00 ∷ []) 1 ∷ []) 1 []
 
 abbrev pub EveryReading : Type 0
-EveryReading = Read Uart × Read Spi × ByReset
+EveryReading = Read × ByReset
 
 -- ---- the newest answer that ended a calibration
 
