@@ -1,53 +1,52 @@
--- The table of names that the program keeps has the names of the rows; the number of a word, and the call of a number.
+-- The number of a word, by its first letter, and the call of a number.
 -- Assumes nothing.
-use Prim.Native.Nat.{ℕ, zero, suc, _+_, _*_, _≤_, _<_}
-use native.Mathlib.Nat.{eq-or-lt-of-le}
-use native.Mathlib.Numerals.{add-one}
+use Prim.Native.Nat.{ℕ, zero, suc, _+_, _≤_}
+use native.Mathlib.Nat.{zero-add, eq-or-lt-of-le}
 use native.Mathlib.Omega.{arith}
-use mathlib.Core.Path.{_≡_, refl, sym, ap, subst, subst⁻¹, ap₂}
+use mathlib.Core.Path.{_≡_, refl, sym, ap, subst, _∙_}
 use mathlib.Core.Bool.{Bool, true, false}
 use mathlib.Core.Logic.{inl, inr}
 use mathlib.Core.List.{List, [], _∷_}
-use lib.Dec.{T, eqb, eqb→eq}
-use lib.ListN.{length, drop, getD, drop-of-length-le, List·getD-eq-default}
-use lib.Seq.{drop-cons}
+use lib.Dec.{eqb}
+use lib.ListN.{List·getD-eq-default}
+use borrow.Author.Tests.{ne-eqb, eqb-false}
 use Rattle.words.specs.Words.{pick}
-use Rattle.words.proofs.Words.{each}
-use Rattle.lines.specs.Lines.{same}
-use Rattle.text.specs.Writing.{word}
+use Rattle.words.proofs.Words.{ways}
+use Rattle.lines.specs.Lines.{byteAt, same}
 use Rattle.calls.specs.declared.Verb.the-variants.{Helps}
 use Rattle.calls.specs.declared.Shape.the-variants.{Nothing}
-use Rattle.calls.specs.Calls.{Row, row, rows, rowOf, nameOf, callOf, shapeOf, position, wordAt}
+use Rattle.calls.specs.Calls.{Row, row, rows, rowOf, callOf, shapeOf, position}
 
-abbrev pub table : List ℕ
-table =
-    word "power-on  pulse     idn       select    send      idle      echo      reset     poll      read      calibrate next      feed      times     wait      band      command   flags     received  out       room      help      "
+-- ---- the number of a word, by its first letter
 
--- one byte more
-same-on : (x y : ℕ) (xs ys : List ℕ) (b : Bool) → eqb x y ≡ b → (T (same xs ys) → xs ≡ ys) → T (pick b (same xs ys) false) → x ∷ xs ≡ y ∷ ys
-same-on x y xs ys true e eq t = ap₂ (λ (z : ℕ) (zs : List ℕ). z ∷ zs) (eqb→eq x y (subst⁻¹ T e tt)) (eq t)
-same-on x y xs ys false e eq t = absurd t
+-- the number of a word with a first letter, among the rows from the k-th on
+abbrev pub sought : List ℕ → ℕ → ℕ → List Row → ℕ
+sought w first k [] = k
+sought w first k (r ∷ rs) =
+    let others = sought w first (suc k) rs in pick (eqb (byteAt (r .name) 0) first) (pick (same w (r .name)) k others) others
 
-pub same→eq : (xs ys : List ℕ) → T (same xs ys) → xs ≡ ys
-same→eq [] [] t = refl
-same→eq [] (y ∷ ys) t = absurd t
-same→eq (x ∷ xs) [] t = absurd t
-same→eq (x ∷ xs) (y ∷ ys) t = same-on x y xs ys (eqb x y) refl (λ same. same→eq xs ys same) t
+-- words with other first letters differ
+unlike : (xs ys : List ℕ) → (byteAt ys 0 ≡ byteAt xs 0 → ⊥) → same xs ys ≡ false
+unlike [] [] ne = absurd (ne refl)
+unlike [] (y ∷ ys) ne = refl
+unlike (x ∷ xs) [] ne = refl
+unlike (x ∷ xs) (y ∷ ys) ne = simp (ne-eqb x y (λ (e : x ≡ y). ne (sym e)))
 
-pub named : (k : ℕ) → k < 256 → wordAt table (k * 10) ≡ nameOf k
-named k h = same→eq (wordAt table (k * 10)) (nameOf k) (each (λ (j : ℕ). same (wordAt table (j * 10)) (nameOf j)) 256 tt k h)
+here : (b : Bool) (k p s : ℕ) → s ≡ suc k + p → pick b k s ≡ k + pick b 0 (1 + p)
+here true k p s e = omega arith
+here false k p s e = omega (arith, e)
 
--- ---- the number of a word, sought among the rows from k on
+by-letter : (w : List ℕ) (first : ℕ) → first ≡ byteAt w 0 → (k : ℕ) (rs : List Row) → sought w first k rs ≡ k + position w rs
+by-letter w first e k [] = omega arith
+by-letter w first e k (r ∷ rs) =
+    let others = by-letter w first e (suc k) rs in
+    let p = position w rs in
+    ways (λ (n : ℕ). n ≡ k + pick (same w (r .name)) 0 (1 + p)) (eqb (byteAt (r .name) 0) first)
+    (λ t. here (same w (r .name)) k p (sought w first (suc k) rs) others)
+    (λ t. simp (unlike w (r .name) (λ (f : byteAt (r .name) 0 ≡ byteAt w 0). eqb-false (byteAt (r .name) 0) first t (f ∙ sym e))) (omega (arith, others)))
 
-module _ (w : List ℕ) (rs : List Row) (d : Row) (k : ℕ) where
-  pub found : k < length rs → same w (getD rs k d .name) ≡ true → k ≡ k + position w (drop k rs)
-  found h e = rw (drop-cons rs k d h) (simp e (omega arith))
-
-  pub further : k < length rs → same w (getD rs k d .name) ≡ false → k + 1 + position w (drop (k + 1) rs) ≡ k + position w (drop k rs)
-  further h e = rw (add-one k, drop-cons rs k d h) (simp e (omega arith))
-
-  pub nowhere : length rs ≤ k → k ≡ k + position w (drop k rs)
-  nowhere h = rw (drop-of-length-le rs {i = k} h) (omega arith)
+pub by-first : (w : List ℕ) (first : ℕ) → first ≡ byteAt w 0 → sought w first 0 rows ≡ position w rows
+by-first w first e = by-letter w first e 0 rows ∙ zero-add (position w rows)
 
 -- ---- the call of a number
 

@@ -7,7 +7,7 @@ use lib.ListN.{getD}
 use Rattle.model.specs.declared.Kind.{Kind}
 use Rattle.model.specs.declared.Kind.the-variants.{Idn, ProtocolSelect, SendRecv, Idle, Echo}
 use Rattle.words.specs.Words.{pick}
-use Rattle.lines.specs.Lines.{fore, rest, wordEnd, same}
+use Rattle.lines.specs.Lines.{same}
 use Rattle.text.specs.Writing.{word}
 use Rattle.calls.specs.declared.Act.the-variants.{PowerOn, Pulse, Sends, Reset, Poll, Read, Calibrate, Next}
 use Rattle.calls.specs.declared.Question.the-variants.{Times, Wait, Band, Command, Flags, Received}
@@ -92,9 +92,3 @@ kindName kind = nameOf (sentBy kind)
 abbrev pub position : List ℕ → List Row → ℕ
 position w [] = 0
 position w (r ∷ rs) = pick (same w (r .name)) 0 (1 + position w rs)
-
--- ---- the table as one text, ten bytes a name
-
--- the word that starts at a place of a text
-abbrev pub wordAt : List ℕ → ℕ → List ℕ
-wordAt xs place = let from = rest xs place in fore from (wordEnd from 0)

@@ -5,11 +5,11 @@ use native.Mathlib.Omega.{arith}
 use mathlib.Core.Path.{_≡_, refl}
 use mathlib.Core.Bool.{Bool, false, _&&_}
 use mathlib.Core.List.{List, [], _∷_, _++_}
-use lib.Dec.{T, leb, eqb, leb→le}
+use lib.Dec.{T, leb, ltb, eqb, leb→le}
 use lib.Ieee.Fits.{and-l, and-r}
 use lib.ListN.{length}
 use lib.Seq.{paste}
-use borrow.Author.Tests.{le-leb, lt-leb, ne-eqb}
+use borrow.Author.Tests.{le-leb, lt-leb, le-ltb, lt-ltb, ne-eqb}
 use Rattle.model.specs.declared.Answer.{Answer}
 use Rattle.model.specs.declared.Answer.the-variants.{Done, Sent, More, Good, Woken, Reference, Refused}
 use Rattle.model.specs.declared.Guard.{Guard}
@@ -33,7 +33,7 @@ use Rattle.calls.specs.declared.Question.the-variants.{Flags as FlagsOf}
 use Rattle.calls.specs.declared.Verb.{Verb}
 use Rattle.calls.specs.declared.Verb.the-variants.{Acts, Feeds, Tells, Sets, Helps}
 use Rattle.calls.specs.declared.Fault.{Fault}
-use Rattle.calls.specs.declared.Fault.the-variants.{Unknown, Longer, NoPair, NoNumber, NoInterface, Count, NoProtocol, Above}
+use Rattle.calls.specs.declared.Fault.the-variants.{TooLong, Unknown}
 use Rattle.calls.specs.declared.Asked.{Asked}
 use Rattle.calls.specs.declared.Asked.the-variants.{Understood, Wrong}
 use Rattle.calls.specs.Calls.{kindName}
@@ -44,16 +44,20 @@ use Rattle.answers.specs.Answers.{answerText, usedText}
 use Rattle.standing.specs.Standing.{stateText}
 use Rattle.questions.specs.Questions.{guardText, readingText, questionText}
 use Rattle.desk.specs.declared.Post.{Post}
-use Rattle.desk.specs.Desk.{Left, acting, feeding, obeyed, carriedOut, blankBytes}
-use Rattle.desk.specs.Claims.{Unmoved, Answered}
+use Rattle.desk.specs.Desk.{Left, Heard, acting, feeding, obeyed, carriedOut, longest}
+use Rattle.desk.specs.Claims.{Unmoved, Shortened, Answered}
 
 pub unmoved : Unmoved
-unmoved line post out room text fault some call wrong =
-    simp (lt-leb (length line) (skipped line 0) some, ne-eqb (byteAt line 0) 35 call, wrong)
+unmoved line number post bytes out room text place fault short some call wrong =
+    let start = skipped line 0 in
+    simp (le-ltb longest (length line) short, lt-leb (length line) start some, ne-eqb (byteAt line start) 35 call, wrong)
 
 -- its hypothesis is met: "tag" is the name of no call
-met : asked (word "tag") blankBytes .answer ≡ Wrong Unknown
+met : asked (word "tag") [] .answer ≡ Wrong 0 Unknown
 met = refl
+
+pub shortened : Shortened
+shortened line number post bytes out room text long = simp (lt-ltb longest (length line) long)
 
 -- ---- what is told begins with a short word
 
@@ -95,16 +99,6 @@ question-short Command given = reading-short given (readCommand given)
 question-short FlagsOf given = tt
 question-short Received given = tt
 
-fault-short : (fault : Fault) → T (short (faultText fault))
-fault-short Unknown = tt
-fault-short (Longer place) = tt
-fault-short (NoPair place) = tt
-fault-short (NoNumber place) = tt
-fault-short (NoInterface place) = tt
-fault-short (Count n wanted) = tt
-fault-short NoProtocol = tt
-fault-short (Above n greatest) = tt
-
 -- ---- and what begins with a word that fits is no empty text
 
 grows : (text : List ℕ) (at : ℕ) (parts : List (List ℕ)) → at ≤ written text at parts .answer
@@ -143,13 +137,19 @@ module _ (post : Post) (out room text : List ℕ) (fits : length page ≤ length
   by-obeyed (Sets buffer) number given = begun text (word "ok") (stateText (post .session)) (omega arith) (omega arith)
   by-obeyed Helps number given = begun text page [] (omega arith) fits
 
-  by-heard : (read : Asked) (bytes : List ℕ) → Spoken (carriedOut read bytes post out room text)
-  by-heard (Understood call number count) bytes = by-obeyed call number (fore bytes count)
-  by-heard (Wrong fault) bytes = begun-short text (faultText fault) (fault-short fault) long
+  by-fault : (number place : ℕ) (fault : Fault) → 0 < written text 0 (faultText number place fault) .answer
+  by-fault number place fault = begun-short text (faultText number place fault) tt long
+
+  by-heard : (number : ℕ) (read : Asked) (bytes : List ℕ) → Spoken (carriedOut number read bytes post out room text)
+  by-heard number (Understood call given count) bytes = by-obeyed call given (fore bytes count)
+  by-heard number (Wrong place fault) bytes = by-fault number place fault
 
 pub answered : Answered
-answered line post out room text word whole fits =
-    let read = asked line blankBytes in
-    rw (lt-leb (length line) (skipped line 0) word)
-    (ways (Spoken post out room text fits) (eqb (byteAt line 0) 35) (λ e. begun text line [] (omega arith) whole)
-    (λ e. by-heard post out room text fits (read .answer) (read .bytes)))
+answered line number post bytes out room text word whole fits =
+    let read = asked line bytes in
+    let start = skipped line 0 in
+    let spoken : Heard → Type 0 = λ (heard : Heard). Spoken post out room text fits (heard .left) in
+    ways spoken (ltb longest (length line)) (λ l. by-fault post out room text fits number longest TooLong)
+    (λ l. rw (lt-leb (length line) start word)
+    (ways spoken (eqb (byteAt line start) 35) (λ e. begun text line [] (omega arith) whole)
+    (λ e. by-heard post out room text fits number (read .answer) (read .bytes))))

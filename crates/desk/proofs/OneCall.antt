@@ -4,7 +4,7 @@ use Prim.Native.Nat.{ℕ}
 use mathlib.Core.Path.{_≡_, refl}
 use mathlib.Core.Logic.{_⊎_, inl, inr}
 use mathlib.Core.List.{List}
-use lib.Dec.{leb, eqb}
+use lib.Dec.{leb, ltb, eqb}
 use lib.ListN.{length}
 use Rattle.model.specs.declared.Session.{Session}
 use Rattle.model.specs.Frames.{command}
@@ -21,7 +21,7 @@ use Rattle.calls.specs.declared.Asked.the-variants.{Understood, Wrong}
 use Rattle.reading.specs.Asking.{asked}
 use Rattle.acts.specs.Acts.{interfaceOf, planOf, acted}
 use Rattle.desk.specs.declared.Post.{Post}
-use Rattle.desk.specs.Desk.{Left, obeyed, carriedOut, blankBytes}
+use Rattle.desk.specs.Desk.{Left, Heard, obeyed, carriedOut, longest}
 use Rattle.desk.specs.Claims.{Made, OneCall}
 
 act-made : (s : Session) (act : Act) (number : ℕ) (given out : List ℕ) → Made s (acted s act number given out .answer .session)
@@ -46,12 +46,15 @@ module _ (post : Post) (out room text : List ℕ) where
   by-obeyed (Sets Room) number given = inl refl
   by-obeyed Helps number given = inl refl
 
-  by-heard : (read : Asked) (bytes : List ℕ) → Once (carriedOut read bytes post out room text)
-  by-heard (Understood call number count) bytes = by-obeyed call number (fore bytes count)
-  by-heard (Wrong fault) bytes = inl refl
+  by-heard : (number : ℕ) (read : Asked) (bytes : List ℕ) → Once (carriedOut number read bytes post out room text)
+  by-heard number (Understood call given count) bytes = by-obeyed call given (fore bytes count)
+  by-heard number (Wrong place fault) bytes = inl refl
 
 pub one-call : OneCall
-one-call line post out room text =
-    let read = asked line blankBytes in
-    ways (Once post out room text) (leb (length line) (skipped line 0)) (λ t. inl refl)
-    (λ t. ways (Once post out room text) (eqb (byteAt line 0) 35) (λ e. inl refl) (λ e. by-heard post out room text (read .answer) (read .bytes)))
+one-call line number post bytes out room text =
+    let read = asked line bytes in
+    let start = skipped line 0 in
+    let once : Heard → Type 0 = λ (heard : Heard). Once post out room text (heard .left) in
+    ways once (ltb longest (length line)) (λ l. inl refl)
+    (λ l. ways once (leb (length line) start) (λ t. inl refl)
+    (λ t. ways once (eqb (byteAt line start) 35) (λ e. inl refl) (λ e. by-heard post out room text number (read .answer) (read .bytes))))

@@ -5,6 +5,8 @@ use Rattle.words.proofs.Contract.{one-outcome}
 use Rattle.desk.specs.Claims.{OneLine}
 
 pub one-line : OneLine
-one-line left r r′ out out′ room room′ text text′ p q =
-    let d = one-outcome (left .done) r r′ text text′ (p .done) (q .done) in
-    (d .0, p .out ∙ sym (q .out), p .room ∙ sym (q .room), d .1)
+one-line heard r r′ bytes bytes′ out out′ room room′ text text′ p q =
+    let a = p .left in
+    let b = q .left in
+    let d = one-outcome (heard .left .done) r r′ text text′ (a .done) (b .done) in
+    (d .0, p .bytes ∙ sym (q .bytes), a .out ∙ sym (b .out), a .room ∙ sym (b .room), d .1)

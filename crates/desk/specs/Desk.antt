@@ -3,8 +3,8 @@
 use Prim.Native.Nat.{ℕ}
 use mathlib.Core.Path.{_≡_}
 use mathlib.Core.List.{List, [], _∷_, _++_}
-use lib.Dec.{leb, eqb}
-use lib.ListN.{length, replicate}
+use lib.Dec.{leb, ltb, eqb}
+use lib.ListN.{length}
 use Rattle.model.specs.declared.Session.{Session}
 use Rattle.model.specs.declared.Outcome.{Outcome}
 use Rattle.words.specs.Words.{pick}
@@ -17,6 +17,8 @@ use Rattle.calls.specs.declared.Buffer.{Buffer}
 use Rattle.calls.specs.declared.Buffer.the-variants.{Out, Room}
 use Rattle.calls.specs.declared.Verb.{Verb}
 use Rattle.calls.specs.declared.Verb.the-variants.{Acts, Feeds, Tells, Sets, Helps}
+use Rattle.calls.specs.declared.Fault.{Fault}
+use Rattle.calls.specs.declared.Fault.the-variants.{TooLong}
 use Rattle.calls.specs.declared.Asked.{Asked}
 use Rattle.calls.specs.declared.Asked.the-variants.{Understood, Wrong}
 use Rattle.reading.specs.Asking.{asked}
@@ -90,23 +92,41 @@ obeyed (Tells question) post number given out room text =
 obeyed (Sets buffer) post number given out room text = record { done = setTold post buffer number text; out = out; room = room }
 obeyed Helps post number given out room text = record { done = saying post (page ∷ []) text; out = out; room = room }
 
--- ---- the line
+-- ---- the line, by its number in the script
+
+-- what a line leaves, with the buffer for its bytes
+pub record Heard : Type 0 where
+  pub left : Left
+  pub bytes : List ℕ
+
+pub record Hears (heard : Heard) (r : Done) (bytes′ out′ room′ text′ : List ℕ) : Type 0 where
+  pub left : Leaves (heard .left) r out′ room′ text′
+  pub bytes : bytes′ ≡ heard .bytes
+
+-- what is wrong at a place of the line
+abbrev pub faulted : ℕ → ℕ → Fault → Post → List ℕ → List ℕ → List ℕ → Left
+faulted line place fault post out room text = record { done = saying post (faultText line place fault) text; out = out; room = room }
 
 -- a line that was read as a call, with the buffer that has its bytes
-abbrev pub carriedOut : Asked → List ℕ → Post → List ℕ → List ℕ → List ℕ → Left
-carriedOut (Understood call number count) bytes post out room text = obeyed call post number (fore bytes count) out room text
-carriedOut (Wrong fault) bytes post out room text = record { done = saying post (faultText fault) text; out = out; room = room }
+abbrev pub carriedOut : ℕ → Asked → List ℕ → Post → List ℕ → List ℕ → List ℕ → Left
+carriedOut line (Understood call number count) bytes post out room text = obeyed call post number (fore bytes count) out room text
+carriedOut line (Wrong place fault) bytes post out room text = faulted line place fault post out room text
 
--- the buffer for the bytes of a line, which are two digits each
-abbrev pub blankBytes : List ℕ
-blankBytes = replicate 2048 0
+abbrev pub hearing : List ℕ → ℕ → Post → List ℕ → List ℕ → List ℕ → List ℕ → Heard
+hearing line number post bytes out room text =
+    let read = asked line bytes in
+    record { left = carriedOut number (read .answer) (read .bytes) post out room text; bytes = read .bytes }
 
-abbrev pub hearing : List ℕ → Post → List ℕ → List ℕ → List ℕ → Left
-hearing line post out room text = let read = asked line blankBytes in carriedOut (read .answer) (read .bytes) post out room text
+-- how many bytes a line has at most
+abbrev pub longest : ℕ
+longest = 4096
 
--- a line with no word has no answer, one that begins with # is copied, and any other is a call
-abbrev pub answered : List ℕ → Post → List ℕ → List ℕ → List ℕ → Left
-answered line post out room text =
-    pick (leb (length line) (skipped line 0)) (record { done = record { answer = record { post = post; n = 0 }; bytes = text }; out = out; room = room })
-    (pick (eqb (byteAt line 0) 35) (record { done = saying post (line ∷ []) text; out = out; room = room })
-    (hearing line post out room text))
+-- a line with no word has no answer, one whose first word begins with # is copied, and any other is a call
+abbrev pub answered : List ℕ → ℕ → Post → List ℕ → List ℕ → List ℕ → List ℕ → Heard
+answered line number post bytes out room text =
+    let start = skipped line 0 in
+    pick (ltb longest (length line)) (record { left = faulted number longest TooLong post out room text; bytes = bytes })
+    (pick (leb (length line) start)
+    (record { left = record { done = record { answer = record { post = post; n = 0 }; bytes = text }; out = out; room = room }; bytes = bytes })
+    (pick (eqb (byteAt line start) 35) (record { left = record { done = saying post (line ∷ []) text; out = out; room = room }; bytes = bytes })
+    (hearing line number post bytes out room text)))

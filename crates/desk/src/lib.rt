@@ -1,10 +1,11 @@
 // A line and what is kept from line to line, answered: the session and the lent buffers go in and come back.
 ghost use mathlib.Core.Path.{_≡_};
 ghost use Rattle.words.specs.Contract.{Is};
-ghost use Rattle.desk.specs.Desk.{withSession, lending, acting, actTold, feeding, feedTold, setTold, obeyed, hearing, answered, Leaves};
+ghost use Rattle.desk.specs.Desk.{withSession, lending, acting, actTold, feeding, feedTold, setTold, obeyed, hearing, answered, Leaves, Hears};
 use calls::Act;
 use calls::Asked;
 use calls::Buffer;
+use calls::Fault;
 use calls::Verb;
 use model::Session;
 
@@ -120,43 +121,69 @@ fn obey(
 }
 
 // A line read as a call, and obeyed.
-fn hear(line: &[u8], post: Post, out: &mut [u8], room: &mut [u8], text: &mut [u8]) -> Done
-    ensures { λ r. ⌜ Leaves (hearing (now (line .entry)) post (now (out .entry)) (now (room .entry)) (now (text .entry))) r (now (out .exit)) (now (room .exit)) (now (text .exit)) ⌝ }
+fn hear(
+    line: &[u8],
+    number: u64,
+    post: Post,
+    bytes: &mut [u8],
+    out: &mut [u8],
+    room: &mut [u8],
+    text: &mut [u8],
+) -> Done
+    ensures { λ r. ⌜ Hears (hearing (now (line .entry)) number post (now (bytes .entry)) (now (out .entry)) (now (room .entry)) (now (text .entry))) r (now (bytes .exit)) (now (out .exit)) (now (room .exit)) (now (text .exit)) ⌝ }
 {
-    let mut bytes = [0u8; 2048];
-    match reading::read(line, &mut bytes) {
+    match reading::read(line, bytes) {
         Asked::Understood {
             call,
-            number,
+            number: given,
             count,
         } => obey(
             call,
             post,
-            number,
-            lines::front(&bytes, count),
+            given,
+            lines::front(bytes, count),
             out,
             room,
             text,
         ),
-        Asked::Wrong(fault) => Done {
+        Asked::Wrong { place, fault } => Done {
             post,
-            n: faults::put(text, fault),
+            n: faults::put(text, number, place, fault),
         },
     }
 }
 
-// The answer to a line, at the front of the text, with no line end.
-pub fn answer(line: &[u8], post: Post, out: &mut [u8], room: &mut [u8], text: &mut [u8]) -> Done
-    ensures { λ r. ⌜ Leaves (answered (now (line .entry)) post (now (out .entry)) (now (room .entry)) (now (text .entry))) r (now (out .exit)) (now (room .exit)) (now (text .exit)) ⌝ }
+// How many bytes a line has at most.
+pub const LONGEST: usize = 4096;
+
+// The answer to a line, by its number in the script, at the front of the text, with no line end. The bytes of a call are read into a
+// buffer, which has room for all where it is half as long as the line.
+pub fn answer(
+    line: &[u8],
+    number: u64,
+    post: Post,
+    bytes: &mut [u8],
+    out: &mut [u8],
+    room: &mut [u8],
+    text: &mut [u8],
+) -> Done
+    ensures { λ r. ⌜ Hears (answered (now (line .entry)) number post (now (bytes .entry)) (now (out .entry)) (now (room .entry)) (now (text .entry))) r (now (bytes .exit)) (now (out .exit)) (now (room .exit)) (now (text .exit)) ⌝ }
 {
-    if line.len() <= lines::skip(line, 0) {
+    if LONGEST < line.len() {
+        return Done {
+            post,
+            n: faults::put(text, number, LONGEST, Fault::TooLong),
+        };
+    }
+    let start = lines::skip(line, 0);
+    if line.len() <= start {
         return Done { post, n: 0 };
     }
-    if lines::at(line, 0) == b'#' {
+    if lines::at(line, start) == b'#' {
         return Done {
             post,
             n: text::put(text, 0, line),
         };
     }
-    hear(line, post, out, room, text)
+    hear(line, number, post, bytes, out, room, text)
 }

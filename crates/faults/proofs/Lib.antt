@@ -1,1 +1,1 @@
-pub mod FaultText
+pub mod Telling

@@ -1,6 +1,6 @@
-// What is wrong with a line, and what was expected, as text. Columns are counted from 1.
+// What is wrong with a line, where, and what was expected, as text. Lines and columns are counted from 1.
 ghost use Rattle.text.specs.Writing.{Puts};
-ghost use Rattle.faults.specs.Faults.{column, atColumn, given, faultText};
+ghost use Rattle.faults.specs.Faults.{column, whereText, given, whatText, faultText};
 use calls::Fault;
 
 fn put_column(text: &mut [u8], at: usize, place: usize) -> usize
@@ -12,69 +12,72 @@ fn put_column(text: &mut [u8], at: usize, place: usize) -> usize
     at
 }
 
-fn put_at(text: &mut [u8], place: usize, what: &[u8]) -> usize
-    ensures { λ r. ⌜ Puts (now (text .entry)) 0 (atColumn place (now (what .entry))) r (now (text .exit)) ⌝ }
+fn put_where(text: &mut [u8], line: u64, place: usize) -> usize
+    ensures { λ r. ⌜ Puts (now (text .entry)) 0 (whereText line place) r (now (text .exit)) ⌝ }
 {
-    let n = text::put(text, 0, b"error: column");
+    let n = text::put_count(text, 0, b"error: line", line);
+    let n = text::put(text, n, b", column");
     let n = put_column(text, n, place);
-    text::put(text, n, what)
+    text::put(text, n, b": ")
 }
 
 // A number that was given, and one that was expected.
 fn put_given<'a>(
     text: &mut [u8],
+    at: usize,
     what: &'a [u8],
     number: usize,
     expected: &'a [u8],
     wanted: usize,
 ) -> usize
-    ensures { λ r. ⌜ Puts (now (text .entry)) 0 (given (now (what .entry)) number (now (expected .entry)) wanted) r (now (text .exit)) ⌝ }
+    ensures { λ r. ⌜ Puts (now (text .entry)) at (given (now (what .entry)) number (now (expected .entry)) wanted) r (now (text .exit)) ⌝ }
 {
-    let n = text::put(text, 0, what);
-    let n = text::put_number(text, n, number as u64);
-    let n = text::put(text, n, expected);
-    text::put_number(text, n, wanted as u64)
+    let n = text::put_count(text, at, what, number as u64);
+    text::put_count(text, n, expected, wanted as u64)
 }
 
-pub fn put(text: &mut [u8], fault: Fault) -> usize
-    ensures { λ r. ⌜ Puts (now (text .entry)) 0 (faultText fault) r (now (text .exit)) ⌝ }
+fn put_what(text: &mut [u8], at: usize, fault: Fault) -> usize
+    ensures { λ r. ⌜ Puts (now (text .entry)) at (whatText fault) r (now (text .exit)) ⌝ }
 {
     match fault {
-        Fault::Unknown => text::put(
+        Fault::TooLong => text::put(text, at, b"a line too long; expected at most 4096 bytes"),
+        Fault::Unknown => text::put(text, at, b"no such call; expected one that help lists"),
+        Fault::Longer => text::put(
             text,
-            0,
-            b"error: no such call; expected one that help lists",
+            at,
+            b"more than the call takes; expected the line's end",
         ),
-        Fault::Longer(place) => put_at(
-            text,
-            place,
-            b": more than the call takes; expected the line's end",
-        ),
-        Fault::NoPair(place) => put_at(text, place, b": no byte; expected pairs of hex digits"),
-        Fault::NoNumber(place) => put_at(
-            text,
-            place,
-            b": no number; expected one to nine decimal digits",
-        ),
-        Fault::NoInterface(place) => put_at(text, place, b": no interface; expected spi or uart"),
+        Fault::NoPair => text::put(text, at, b"no byte; expected pairs of hex digits"),
+        Fault::NoNumber => text::put(text, at, b"no number; expected one to nine decimal digits"),
+        Fault::NoInterface => text::put(text, at, b"no interface; expected spi or uart"),
         Fault::Count { given, wanted } => put_given(
             text,
-            b"error: bytes given:",
+            at,
+            b"bytes given:",
             given,
             b"; expected",
             wanted,
         ),
         Fault::NoProtocol => text::put(
             text,
-            0,
-            b"error: no protocol; expected its byte, then the parameters",
+            at,
+            b"no protocol; expected its byte, then the parameters",
         ),
         Fault::Above { given, greatest } => put_given(
             text,
-            b"error: too great:",
+            at,
+            b"too great:",
             given,
             b"; expected at most",
             greatest,
         ),
     }
+}
+
+// Puts what is wrong at a place of a line, by its number.
+pub fn put(text: &mut [u8], line: u64, place: usize, fault: Fault) -> usize
+    ensures { λ r. ⌜ Puts (now (text .entry)) 0 (faultText line place fault) r (now (text .exit)) ⌝ }
+{
+    let n = put_where(text, line, place);
+    put_what(text, n, fault)
 }

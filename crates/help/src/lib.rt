@@ -1,4 +1,4 @@
-// The page that help tells: the calls, with an example each.
+// The page that help tells: the calls, what each is for, and what it answers.
 ghost use mathlib.Core.List.{[], _∷_};
 ghost use Rattle.text.specs.Writing.{Puts};
 ghost use Rattle.help.specs.Page.{page};
@@ -10,27 +10,41 @@ pub fn put(text: &mut [u8], at: usize) -> usize
     text::put(
         text,
         at,
-        b"power-on uart                                     power was given, and the interface is uart or spi
-pulse                                             a low pulse was given on IRQ_IN
-idn                                               IDN, to be sent
-select 01 0D                                      ProtocolSelect: the protocol, then its parameters
-send 26 01 00                                     SendRecv: its data
-idle 08 04 00 04 00 18 00 00 00 00 00 00 00 00    Idle: its 14 data bytes
-echo                                              Echo, to be sent
-reset                                             a reset over SPI
-poll                                              a poll over SPI
-read 5                                            a read of so many bytes over SPI
-calibrate 0 A1 00 F8 01 18 00 20 60 60 3F         a calibration: prescaler, enter, wake-up and leave pairs, WuPeriod, OscStart, DacStart, SwingCnt
-next                                              the next command of the calibration
-feed 00 01 02                                     bytes of the awaited reply, as they come in
-times 03 A1 00 F8 01 18 00 20 60 60 00 FC 3F 01   the times of an Idle command, in ticks and ms
-wait 03 A1 00 F8 01 18 00 20 60 60 00 FC 3F 01    how long it waits
-band 5C                                           the guard band of a reference
-command 04 03 26 01 00                            the call that sends these bytes
-flags 08                                          what the flags of a poll say
-received 00 08                                    what a poll or a read brought back
-out 600                                           the length of the lent output from now on
-room 600                                          the length of the reply room from now on
-help                                              this page",
+        b"power-on spi, uart   power was given                      ok [STATE]
+pulse                a low pulse on IRQ_IN was given      ok [STATE]
+idn                  IDN, to be sent                      sent BYTES [STATE]
+select PP BYTES      ProtocolSelect, its parameters       sent BYTES [STATE]
+send BYTES           SendRecv, its data                   sent BYTES [STATE]
+idle BYTES           Idle, its 14 data bytes              sent BYTES [STATE]
+echo                 Echo, to be sent                     sent BYTES [STATE]
+reset                a reset over SPI                     sent BYTES [STATE]
+poll                 a poll over SPI                      sent BYTES [STATE]
+read N               a read of N bytes over SPI           sent BYTES [STATE]
+calibrate P BYTES    a calibration, its 10 bytes          sent BYTES [STATE]
+next                 the calibration's next command       sent BYTES [STATE]
+feed BYTES           bytes of the awaited reply           as below
+times BYTES          the times of an Idle's 14 bytes      ticks .. ms ..
+wait BYTES           how long that Idle waits             after MS ms, endless
+band RR              the guard band of a reference        band LL HH
+command BYTES        the call that sends these bytes      idn, select PP ..
+flags BB             what the flags of a poll say         read yes send no
+received BYTES       what a poll or a read brought back   bytes BYTES
+out N                the lent output's length from now    ok [STATE]
+room N               the reply room's length from now     ok [STATE]
+help                 this page
+
+feed answers    more used N [STATE]
+                good used N piece BYTES [STATE], or room BYTES, or no bytes
+                woken timeout used N piece EE [STATE], or tag, irq-in, spi-ss
+                refused N used N [STATE], and 7 with the chip's error code
+and at the end of a calibration
+                reference RR commands N used N piece EE [STATE]
+calibrate       P is the prescaler; the bytes are the enter, wake-up and leave
+                pairs, WuPeriod, OscStart, DacStart and SwingCnt
+STATE           power-up, ready, selected P, waiting idn (or select, send,
+                idle, echo), lost; and ', calibrating'
+Any call may answer 'refused N', and a line that is no call answers
+'error: line L, column C: ..'. BYTES are pairs of hex digits, N is decimal.
+docs/CALLS.md has every call, every answer, and what to do about each refusal.",
     )
 }

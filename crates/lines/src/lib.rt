@@ -69,7 +69,8 @@ pub fn word_end(line: &[u8], from: usize) -> usize
     run_end(line, from, false)
 }
 
-fn are_same(part: &[u8], word: &[u8]) -> bool
+// Whether two texts are the same, up to the first byte that differs.
+pub fn are_same(part: &[u8], word: &[u8]) -> bool
     ensures { λ r. ⌜ r ≡ same (now (part .entry)) (now (word .entry)) ⌝ }
 {
     let mut i = 0;

@@ -26,7 +26,7 @@ use Rattle.reading.specs.Asking.{ended, interfaced, bytesAsked, any, cou
 
 -- the end of the line, from where the blanks end
 module _ (call : Verb) (number : ℕ) (line : List ℕ) (from : ℕ) {next : ℕ} (is : next ≡ skipped line from) where
-  pub more-behind : next < length line → Wrong (Longer next) ≡ ended call number line from
+  pub more-behind : next < length line → Wrong next Longer ≡ ended call number line from
   more-behind h = rw (← is, lt-ltb next (length line) h)
 
   pub none-behind : length line ≤ next → Understood call number 0 ≡ ended call number line from
@@ -40,7 +40,7 @@ module _ (call : Verb) (line : List ℕ) (from : ℕ) {start end : ℕ} (starts 
   abbrev uart : Bool
   uart = isWord line start end (word "uart")
 
-  found : {r : Asked} → r ≡ pick spi (ended call 0 line end) (pick uart (ended call 1 line end) (Wrong (NoInterface start))) → r ≡ interfaced call line from
+  found : {r : Asked} → r ≡ pick spi (ended call 0 line end) (pick uart (ended call 1 line end) (Wrong start NoInterface)) → r ≡ interfaced call line from
   found e = rw (← starts, ← ends) e
 
   module _ {b : Bool} (is : b ≡ spi) where
@@ -50,7 +50,7 @@ module _ (call : Verb) (line : List ℕ) (from : ℕ) {start end : ℕ} (starts 
     pub by-uart : {r : Asked} {d : Bool} → b ≡ false → d ≡ uart → d ≡ true → r ≡ ended call 1 line end → r ≡ interfaced call line from
     by-uart t also u e = found (simp (sym is ∙ t, sym also ∙ u) e)
 
-    pub by-neither : {d : Bool} → b ≡ false → d ≡ uart → d ≡ false → Wrong (NoInterface start) ≡ interfaced call line from
+    pub by-neither : {d : Bool} → b ≡ false → d ≡ uart → d ≡ false → Wrong start NoInterface ≡ interfaced call line from
     by-neither t also u = found (simp (sym is ∙ t, sym also ∙ u))
 
 -- bytes, by how their reading ended
@@ -65,23 +65,23 @@ judging judge m is e = record { answer = e ∙ ap judge (is .answer); bytes = is
 -- a number, by how its reading ended
 module _ (call : Verb) (greatest wanted : ℕ) (line buffer : List ℕ) (from : ℕ) {read : Number} (is : read ≡ readNumber line from) where
   abbrev run : Number → Ran Asked
-  run n = numbered call greatest wanted line buffer n
+  run n = numbered call greatest wanted line from buffer n
 
   pub by-number : {known : Number} {r : Asked} {exit : List ℕ} → read ≡ known → Is (run known) r exit → Is (run (readNumber line from)) r exit
   by-number {r = r} {exit} e did = subst (λ (n : Number). Is (run n) r exit) (sym e ∙ is) did
 
   module _ {value next : ℕ} (e : read ≡ Numeral value next) where
-    pub too-great : greatest < value → Is (run (readNumber line from)) (Wrong (Above value greatest)) buffer
+    pub too-great : greatest < value → Is (run (readNumber line from)) (Wrong from (Above value greatest)) buffer
     too-great h = by-number e (simp (lt-ltb greatest value h) (record { answer = refl; bytes = refl }))
 
     module _ (h : value ≤ greatest) where
       pub alone : {r : Asked} → wanted ≡ 0 → r ≡ ended call value line next → Is (run (readNumber line from)) r buffer
       alone w did = by-number e (simp (le-ltb greatest value h, eq-eqb wanted 0 w) (record { answer = did; bytes = refl }))
 
-      pub then-bytes : {first r : Asked} {exit : List ℕ} → (wanted ≡ 0 → ⊥) → Is (any call value line next buffer) first exit → r ≡ counted wanted first
-          → Is (run (readNumber line from)) r exit
-      then-bytes w did j =
-          by-number e (simp (le-ltb greatest value h, ne-eqb wanted 0 w) (judging (counted wanted) (any call value line next buffer) did j))
+      pub then-bytes : {start : ℕ} {first r : Asked} {exit : List ℕ} → (wanted ≡ 0 → ⊥) → start ≡ skipped line next
+          → Is (any call value line start buffer) first exit → r ≡ counted start wanted first → Is (run (readNumber line from)) r exit
+      then-bytes {start} w starts did j =
+          by-number e (simp (le-ltb greatest value h, ne-eqb wanted 0 w) (rw (← starts) (judging (counted start wanted) (any call value line start buffer) did j)))
 
 -- a call by its shape
 pub by-shape : (call : Verb) (line : List ℕ) (from : ℕ) (buffer : List ℕ) {r : Asked} {exit : List ℕ} {shape known : Shape} → shape ≡ known
@@ -92,15 +92,17 @@ by-shape call line from buffer {r} {exit} e is = subst (λ (s : Shape). Is (read
 module _ (line buffer : List ℕ) {start end k : ℕ} (starts : start ≡ skipped line 0) (ends : end ≡ wordEnd line start)
     (is : k ≡ position (between line start end) rows) where
   abbrev run-of : ℕ → ℕ → Ran Asked
-  run-of k end = pick (ltb k (length rows)) (readShape (callOf k) (shapeOf k) line end buffer) (untouched buffer (Wrong Unknown))
+  run-of k end = pick (ltb k (length rows)) (readShape (callOf k) (shapeOf k) line (skipped line end) buffer) (untouched buffer (Wrong start Unknown))
 
   by-word : {r : Asked} {exit : List ℕ} → Is (run-of k end) r exit → Is (asked line buffer) r exit
   by-word did = rw (← starts, ← ends, ← is) did
 
-  pub by-name : {call : Verb} {shape : Shape} {r : Asked} {exit : List ℕ} → k < 22 → call ≡ callOf k → shape ≡ shapeOf k
-      → Is (readShape call shape line end buffer) r exit → Is (asked line buffer) r exit
-  by-name {call} {shape} {r} {exit} h c t did =
-      by-word (simp (lt-ltb k 22 h) (subst (λ (x : Verb). Is (readShape x (shapeOf k) line end buffer) r exit) c (by-shape call line end buffer (sym t) did)))
+  pub by-name : {call : Verb} {shape : Shape} {from : ℕ} {r : Asked} {exit : List ℕ} → k < 22 → call ≡ callOf k → shape ≡ shapeOf k
+      → from ≡ skipped line end → Is (readShape call shape line from buffer) r exit → Is (asked line buffer) r exit
+  by-name {call} {shape} {from} {r} {exit} h c t f did =
+      by-word
+      (simp (lt-ltb k 22 h)
+      (rw (← f) (subst (λ (x : Verb). Is (readShape x (shapeOf k) line from buffer) r exit) c (by-shape call line from buffer (sym t) did))))
 
-  pub no-name : 22 ≤ k → Is (asked line buffer) (Wrong Unknown) buffer
+  pub no-name : 22 ≤ k → Is (asked line buffer) (Wrong start Unknown) buffer
   no-name h = by-word (simp (le-ltb k 22 h) (record { answer = refl; bytes = refl }))

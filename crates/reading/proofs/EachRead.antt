@@ -24,6 +24,6 @@ each-read k h nothing buffer =
     let whole : between name 0 (length name) ≡ name = take-length name in
     let past : length name ≡ skipped name (length name) = rw (drop-length name) (omega arith) in
     let is : Is (asked name buffer) (Understood (callOf k) 0 0) buffer =
-    by-name name buffer (sym begins) (sym ends) (sym (ap (λ (w : List ℕ). position w rows) whole ∙ number-of-name k h)) h refl (sym nothing)
+    by-name name buffer (sym begins) (sym ends) (sym (ap (λ (w : List ℕ). position w rows) whole ∙ number-of-name k h)) h refl (sym nothing) past
     (record { answer = none-behind (callOf k) 0 name (length name) past (omega arith); bytes = refl }) in
     ap₂ (λ (r : Asked) (exit : List ℕ). record { answer = r; bytes = exit }) (sym (is .answer)) (sym (is .bytes))

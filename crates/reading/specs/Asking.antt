@@ -30,7 +30,7 @@ use Rattle.calls.specs.Calls.{rows, callOf, shapeOf, position}
 abbrev pub ended : Verb → ℕ → List ℕ → ℕ → Asked
 ended call number line from =
     let next = skipped line from in
-    pick (ltb next (length line)) (Wrong (Longer next)) (Understood call number 0)
+    pick (ltb next (length line)) (Wrong next Longer) (Understood call number 0)
 
 -- spi, which is 0, or uart, which is 1, and nothing more
 abbrev pub interfaced : Verb → List ℕ → ℕ → Asked
@@ -38,12 +38,12 @@ interfaced call line from =
     let start = skipped line from in
     let end = wordEnd line start in
     pick (isWord line start end (word "spi")) (ended call 0 line end)
-    (pick (isWord line start end (word "uart")) (ended call 1 line end) (Wrong (NoInterface start)))
+    (pick (isWord line start end (word "uart")) (ended call 1 line end) (Wrong start NoInterface))
 
 -- bytes, if they could be read
 abbrev pub bytesAsked : Verb → ℕ → Bytes → Asked
 bytesAsked call number (Are count) = Understood call number count
-bytesAsked call number (NoBytes place) = Wrong (NoPair place)
+bytesAsked call number (NoBytes place) = Wrong place NoPair
 
 -- any bytes, read into a buffer
 abbrev pub any : Verb → ℕ → List ℕ → ℕ → List ℕ → Ran Asked
@@ -51,15 +51,15 @@ any call number line from buffer =
     let read = readBytes line from buffer in
     record { answer = bytesAsked call number (read .answer); bytes = read .bytes }
 
--- so many bytes
-abbrev pub counted : ℕ → Asked → Asked
-counted wanted (Understood call number count) = pick (eqb count wanted) (Understood call number count) (Wrong (Count count wanted))
-counted wanted (Wrong fault) = Wrong fault
+-- so many bytes, from a place on
+abbrev pub counted : ℕ → ℕ → Asked → Asked
+counted from wanted (Understood call number count) = pick (eqb count wanted) (Understood call number count) (Wrong from (Count count wanted))
+counted from wanted (Wrong place fault) = Wrong place fault
 
--- one byte or more: the protocol, then its parameters
-abbrev pub protocolled : Asked → Asked
-protocolled (Understood call number count) = pick (eqb count 0) (Wrong NoProtocol) (Understood call number count)
-protocolled (Wrong fault) = Wrong fault
+-- one byte or more from a place on: the protocol, then its parameters
+abbrev pub protocolled : ℕ → Asked → Asked
+protocolled from (Understood call number count) = pick (eqb count 0) (Wrong from NoProtocol) (Understood call number count)
+protocolled from (Wrong place fault) = Wrong place fault
 
 -- an answer judged further, with the buffer as it is
 abbrev pub judged : (Asked → Asked) → Ran Asked → Ran Asked
@@ -69,22 +69,23 @@ judged judge read = record { answer = judge (read .answer); bytes = read .bytes 
 abbrev pub untouched : List ℕ → Asked → Ran Asked
 untouched buffer asked = record { answer = asked; bytes = buffer }
 
--- a number up to a greatest, then so many bytes, or nothing more where none are wanted
-abbrev pub numbered : Verb → ℕ → ℕ → List ℕ → List ℕ → Number → Ran Asked
-numbered call greatest wanted line buffer (Is value next) =
-    pick (ltb greatest value) (untouched buffer (Wrong (Above value greatest)))
-    (pick (eqb wanted 0) (untouched buffer (ended call value line next)) (judged (counted wanted) (any call value line next buffer)))
-numbered call greatest wanted line buffer (NoNumeral place) = untouched buffer (Wrong (NoNumber place))
+-- a number up to a greatest, read from a place on, then so many bytes, or nothing more where none are wanted
+abbrev pub numbered : Verb → ℕ → ℕ → List ℕ → ℕ → List ℕ → Number → Ran Asked
+numbered call greatest wanted line from buffer (Is value next) =
+    let start = skipped line next in
+    pick (ltb greatest value) (untouched buffer (Wrong from (Above value greatest)))
+    (pick (eqb wanted 0) (untouched buffer (ended call value line next)) (judged (counted start wanted) (any call value line start buffer)))
+numbered call greatest wanted line from buffer (NoNumeral place) = untouched buffer (Wrong place NoNumber)
 
 -- ---- the line
 
--- what a call takes, read from a place on
+-- what a call takes, read from a place on that is no blank
 abbrev pub readShape : Verb → Shape → List ℕ → ℕ → List ℕ → Ran Asked
 readShape call Nothing line from buffer = untouched buffer (ended call 0 line from)
 readShape call Interface line from buffer = untouched buffer (interfaced call line from)
-readShape call (Numbered greatest wanted) line from buffer = numbered call greatest wanted line buffer (readNumber line from)
-readShape call (Exactly wanted) line from buffer = judged (counted wanted) (any call 0 line from buffer)
-readShape call Protocol line from buffer = judged protocolled (any call 0 line from buffer)
+readShape call (Numbered greatest wanted) line from buffer = numbered call greatest wanted line from buffer (readNumber line from)
+readShape call (Exactly wanted) line from buffer = judged (counted from wanted) (any call 0 line from buffer)
+readShape call Protocol line from buffer = judged (protocolled from) (any call 0 line from buffer)
 readShape call Any line from buffer = any call 0 line from buffer
 
 -- the call of a line, its bytes read to the front of a buffer
@@ -93,4 +94,4 @@ asked line buffer =
     let start = skipped line 0 in
     let end = wordEnd line start in
     let k = position (between line start end) rows in
-    pick (ltb k (length rows)) (readShape (callOf k) (shapeOf k) line end buffer) (untouched buffer (Wrong Unknown))
+    pick (ltb k (length rows)) (readShape (callOf k) (shapeOf k) line (skipped line end) buffer) (untouched buffer (Wrong start Unknown))

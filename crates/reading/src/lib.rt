@@ -102,7 +102,10 @@ fn ended(call: Verb, number: usize, line: &[u8], from: usize) -> Asked
 {
     let next = lines::skip(line, from);
     if next < line.len() {
-        return Asked::Wrong(Fault::Longer(next));
+        return Asked::Wrong {
+            place: next,
+            fault: Fault::Longer,
+        };
     }
     Asked::Understood {
         call,
@@ -123,7 +126,10 @@ fn interface(call: Verb, line: &[u8], from: usize) -> Asked
     if lines::is_word(line, start, end, b"uart") {
         return ended(call, 1, line, end);
     }
-    Asked::Wrong(Fault::NoInterface(start))
+    Asked::Wrong {
+        place: start,
+        fault: Fault::NoInterface,
+    }
 }
 
 fn any(call: Verb, number: usize, line: &[u8], from: usize, bytes: &mut [u8]) -> Asked
@@ -135,13 +141,16 @@ fn any(call: Verb, number: usize, line: &[u8], from: usize, bytes: &mut [u8]) ->
             number,
             count,
         },
-        Bytes::Wrong(place) => Asked::Wrong(Fault::NoPair(place)),
+        Bytes::Wrong(place) => Asked::Wrong {
+            place,
+            fault: Fault::NoPair,
+        },
     }
 }
 
-// The call, if it has so many bytes.
-fn exactly(asked: Asked, wanted: usize) -> Asked
-    ensures { λ r. ⌜ r ≡ counted wanted asked ⌝ }
+// The call, if it has so many bytes from a place on.
+fn exactly(asked: Asked, from: usize, wanted: usize) -> Asked
+    ensures { λ r. ⌜ r ≡ counted from wanted asked ⌝ }
 {
     match asked {
         Asked::Understood {
@@ -155,18 +164,21 @@ fn exactly(asked: Asked, wanted: usize) -> Asked
                 count,
             }
         } else {
-            Asked::Wrong(Fault::Count {
-                given: count,
-                wanted,
-            })
+            Asked::Wrong {
+                place: from,
+                fault: Fault::Count {
+                    given: count,
+                    wanted,
+                },
+            }
         },
-        Asked::Wrong(fault) => Asked::Wrong(fault),
+        Asked::Wrong { place, fault } => Asked::Wrong { place, fault },
     }
 }
 
-// The call, if it has a protocol.
-fn with_protocol(asked: Asked) -> Asked
-    ensures { λ r. ⌜ r ≡ protocolled asked ⌝ }
+// The call, if it has a protocol at a place.
+fn with_protocol(asked: Asked, from: usize) -> Asked
+    ensures { λ r. ⌜ r ≡ protocolled from asked ⌝ }
 {
     match asked {
         Asked::Understood {
@@ -174,7 +186,10 @@ fn with_protocol(asked: Asked) -> Asked
             number,
             count,
         } => if count == 0 {
-            Asked::Wrong(Fault::NoProtocol)
+            Asked::Wrong {
+                place: from,
+                fault: Fault::NoProtocol,
+            }
         } else {
             Asked::Understood {
                 call,
@@ -182,7 +197,7 @@ fn with_protocol(asked: Asked) -> Asked
                 count,
             }
         },
-        Asked::Wrong(fault) => Asked::Wrong(fault),
+        Asked::Wrong { place, fault } => Asked::Wrong { place, fault },
     }
 }
 
@@ -194,26 +209,33 @@ fn numbered(
     wanted: usize,
     bytes: &mut [u8],
 ) -> Asked
-    ensures { λ r. ⌜ Is (Asking·numbered call greatest wanted (now (line .entry)) (now (bytes .entry)) (readNumber (now (line .entry)) from)) r (now (bytes .exit)) ⌝ }
+    ensures { λ r. ⌜ Is (Asking·numbered call greatest wanted (now (line .entry)) from (now (bytes .entry)) (readNumber (now (line .entry)) from)) r (now (bytes .exit)) ⌝ }
 {
     match digits::read_number(line, from) {
         Number::Is { value, next } => {
             if greatest < value {
-                return Asked::Wrong(Fault::Above {
-                    given: value,
-                    greatest,
-                });
+                return Asked::Wrong {
+                    place: from,
+                    fault: Fault::Above {
+                        given: value,
+                        greatest,
+                    },
+                };
             }
             if wanted == 0 {
                 return ended(call, value, line, next);
             }
-            exactly(any(call, value, line, next, bytes), wanted)
+            let start = lines::skip(line, next);
+            exactly(any(call, value, line, start, bytes), start, wanted)
         }
-        Number::Wrong(place) => Asked::Wrong(Fault::NoNumber(place)),
+        Number::Wrong(place) => Asked::Wrong {
+            place,
+            fault: Fault::NoNumber,
+        },
     }
 }
 
-// What a call takes, read from a place on.
+// What a call takes, read from a place on that is no blank.
 fn take(call: Verb, shape: Shape, line: &[u8], from: usize, bytes: &mut [u8]) -> Asked
     ensures { λ r. ⌜ Is (readShape call shape (now (line .entry)) from (now (bytes .entry))) r (now (bytes .exit)) ⌝ }
 {
@@ -221,8 +243,8 @@ fn take(call: Verb, shape: Shape, line: &[u8], from: usize, bytes: &mut [u8]) ->
         Shape::Nothing => ended(call, 0, line, from),
         Shape::Interface => interface(call, line, from),
         Shape::Numbered { greatest, wanted } => numbered(call, line, from, greatest, wanted, bytes),
-        Shape::Exactly { wanted } => exactly(any(call, 0, line, from, bytes), wanted),
-        Shape::Protocol => with_protocol(any(call, 0, line, from, bytes)),
+        Shape::Exactly { wanted } => exactly(any(call, 0, line, from, bytes), from, wanted),
+        Shape::Protocol => with_protocol(any(call, 0, line, from, bytes), from),
         Shape::Any => any(call, 0, line, from, bytes),
     }
 }
@@ -235,7 +257,10 @@ pub fn read(line: &[u8], bytes: &mut [u8]) -> Asked
     let end = lines::word_end(line, start);
     let k = calls::number_of(line, start, end);
     if k < calls::CALLS {
-        return take(call_of(k), shape_of(k), line, end, bytes);
+        return take(call_of(k), shape_of(k), line, lines::skip(line, end), bytes);
     }
-    Asked::Wrong(Fault::Unknown)
+    Asked::Wrong {
+        place: start,
+        fault: Fault::Unknown,
+    }
 }

@@ -3,7 +3,7 @@
 use borrow.Author.Needs.{needs}
 use native.Mathlib.Omega.{arith}
 use denote.Ref.{now}
-use Rattle.faults.proofs.FaultText.{column-is, no-column}
+use Rattle.faults.proofs.Telling.{column-is, no-column}
 use Rattle.faults.proofs.put_column.Statement.{statement}
 use Rattle.faults.proofs.put_column.Tie as tie
 

@@ -23,7 +23,7 @@ returns-2 c =
     simp (known .1, ne-eqb count wanted (c .if1 .left))
 
 returns-3 : tie.Need-returns-3
-returns-3 c = sym (ap (counted (c .before .before .before .args .wanted)) (c .before .asked2 .given .1))
+returns-3 c = sym (ap (counted (c .before .before .before .args .from) (c .before .before .before .args .wanted)) (c .before .asked2 .given .1))
 
 pub exactly-spec : {M : Type 1} → statement M
 exactly-spec =

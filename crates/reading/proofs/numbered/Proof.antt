@@ -28,12 +28,13 @@ returns-2 c =
 returns-3 : tie.Need-returns-3
 returns-3 c =
     let bytes = c .before .before .before in
-    let some = bytes .before .before in
+    let start = bytes .before .before in
+    let some = start .before in
     let value = some .before .before .before in
     let read = value .before .before in
     let a = read .before .before .before .args in
     then-bytes (a .call) (a .greatest) (a .wanted) (now (a .line)) (now (a .bytes)) (a .from) (read .read-number .ensures) (value .value .given .1)
-    (omega (arith, some .before .if1 .left)) (some .if2 .left) (bytes .any .ensures) (c .exactly .ensures)
+    (omega (arith, some .before .if1 .left)) (some .if2 .left) (start .skip .ensures) (bytes .any .ensures) (c .exactly .ensures)
 
 returns-4 : tie.Need-returns-4
 returns-4 c =
@@ -52,6 +53,7 @@ numbered-spec =
     returns
     (λ c κs. search needs)
     returns-2
+    (λ c κs. search needs)
     (λ c κs. search needs)
     (λ c κs. search needs)
     (λ c. search needs)

@@ -33,7 +33,7 @@ returns-4 c =
     let told = read .before .before .before in
     let a = told .before .before .before .before .args in
     by-shape (a .call) (now (a .line)) (a .from) (now (a .bytes)) (told .shape2 .given .1)
-    (judging (counted (told .shape2 .given .0 .0)) (any (a .call) 0 (now (a .line)) (a .from) (now (a .bytes))) (read .any .ensures) (c .exactly .ensures))
+    (judging (counted (a .from) (told .shape2 .given .0 .0)) (any (a .call) 0 (now (a .line)) (a .from) (now (a .bytes))) (read .any .ensures) (c .exactly .ensures))
 
 returns-5 : tie.Need-returns-5
 returns-5 c =
@@ -41,7 +41,7 @@ returns-5 c =
     let told = read .before .before in
     let a = told .before .before .before .before .args in
     by-shape (a .call) (now (a .line)) (a .from) (now (a .bytes)) (told .enum-told3 .given .1)
-    (judging protocolled (any (a .call) 0 (now (a .line)) (a .from) (now (a .bytes))) (read .any2 .ensures) (c .with-protocol .ensures))
+    (judging (protocolled (a .from)) (any (a .call) 0 (now (a .line)) (a .from) (now (a .bytes))) (read .any2 .ensures) (c .with-protocol .ensures))
 
 returns-6 : tie.Need-returns-6
 returns-6 c =

@@ -19,7 +19,7 @@ returns-2 c =
     simp (known .1, ne-eqb (known .0 .1 .1 .0) 0 (c .if1 .left))
 
 returns-3 : tie.Need-returns-3
-returns-3 c = sym (ap protocolled (c .before .asked2 .given .1))
+returns-3 c = sym (ap (protocolled (c .before .before .before .args .from)) (c .before .asked2 .given .1))
 
 pub with-protocol-spec : {M : Type 1} → statement M
 with-protocol-spec =

@@ -6,7 +6,7 @@ use mathlib.Core.List.{List}
 use borrow.Author.Tests.{lt-ltb, le-ltb}
 use Rattle.text.specs.Writing.{Puts, number}
 use Rattle.calls.specs.declared.Fault.{Fault}
-use Rattle.faults.specs.Faults.{column, faultText}
+use Rattle.faults.specs.Faults.{column, whatText}
 
 module _ (text : List ℕ) (at place : ℕ) where
   pub column-is : (r : ℕ) (exit : List ℕ) → place < 2 ^ 64 - 1 → Puts text at (number (place + 1)) r exit → Puts text at (column place) r exit
@@ -15,6 +15,6 @@ module _ (text : List ℕ) (at place : ℕ) where
   pub no-column : 2 ^ 64 - 1 ≤ place → Puts text at (column place) at text
   no-column h = simp (le-ltb place (2 ^ 64 - 1) h) (record { is = record { answer = refl; bytes = refl } })
 
-pub told : (r : ℕ) (exit : List ℕ) {text : List ℕ} {fault known : Fault} → fault ≡ known → Puts text 0 (faultText known) r exit
-    → Puts text 0 (faultText fault) r exit
-told r exit {text} e is = subst⁻¹ (λ (f : Fault). Puts text 0 (faultText f) r exit) e is
+pub told : (at r : ℕ) (exit : List ℕ) {text : List ℕ} {fault known : Fault} → fault ≡ known → Puts text at (whatText known) r exit
+    → Puts text at (whatText fault) r exit
+told at r exit {text} e is = subst⁻¹ (λ (f : Fault). Puts text at (whatText f) r exit) e is
