@@ -13,7 +13,7 @@ lines (line ∷ next ∷ more) = line ++ (10 ∷ lines (next ∷ more))
 abbrev pub page : List ℕ
 page =
     lines
-    (word "power-on spi, uart   power was given                      ok [STATE]"
+    (word "power-on uart        power was given; or power-on spi     ok [STATE]"
     ∷ word "pulse                a low pulse on IRQ_IN was given      ok [STATE]"
     ∷ word "idn                  IDN, to be sent                      sent BYTES [STATE]"
     ∷ word "select PP BYTES      ProtocolSelect, its parameters       sent BYTES [STATE]"
@@ -39,14 +39,16 @@ page =
     ∷ word "feed answers    more used N [STATE]"
     ∷ word "                good used N piece BYTES [STATE], or room BYTES, or no bytes"
     ∷ word "                woken timeout used N piece EE [STATE], or tag, irq-in, spi-ss"
-    ∷ word "                refused N used N [STATE], and 7 with the chip's error code"
+    ∷ word "                refused N used N [STATE], or refused 7 CODE used N [STATE]"
     ∷ word "and at the end of a calibration"
     ∷ word "                reference RR commands N used N piece EE [STATE]"
+    ∷ word "                refused 8, 9 or 10 commands N used N piece EE [STATE]"
+    ∷ word "                refused 12 CODE commands N used N [STATE]"
     ∷ word "calibrate       P is the prescaler; the bytes are the enter, wake-up and leave"
     ∷ word "                pairs, WuPeriod, OscStart, DacStart and SwingCnt"
     ∷ word "STATE           power-up, ready, selected P, waiting idn (or select, send,"
     ∷ word "                idle, echo), lost; and ', calibrating'"
-    ∷ word "Any call may answer 'refused N', and a line that is no call answers"
+    ∷ word "A call may answer 'refused N', and a line that is no call answers"
     ∷ word "'error: line L, column C: ..'. BYTES are pairs of hex digits, N is decimal."
     ∷ word "docs/CALLS.md has every call, every answer, and what to do about each refusal."
     ∷ [])

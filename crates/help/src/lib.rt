@@ -10,7 +10,7 @@ pub fn put(text: &mut [u8], at: usize) -> usize
     text::put(
         text,
         at,
-        b"power-on spi, uart   power was given                      ok [STATE]
+        b"power-on uart        power was given; or power-on spi     ok [STATE]
 pulse                a low pulse on IRQ_IN was given      ok [STATE]
 idn                  IDN, to be sent                      sent BYTES [STATE]
 select PP BYTES      ProtocolSelect, its parameters       sent BYTES [STATE]
@@ -36,14 +36,16 @@ help                 this page
 feed answers    more used N [STATE]
                 good used N piece BYTES [STATE], or room BYTES, or no bytes
                 woken timeout used N piece EE [STATE], or tag, irq-in, spi-ss
-                refused N used N [STATE], and 7 with the chip's error code
+                refused N used N [STATE], or refused 7 CODE used N [STATE]
 and at the end of a calibration
                 reference RR commands N used N piece EE [STATE]
+                refused 8, 9 or 10 commands N used N piece EE [STATE]
+                refused 12 CODE commands N used N [STATE]
 calibrate       P is the prescaler; the bytes are the enter, wake-up and leave
                 pairs, WuPeriod, OscStart, DacStart and SwingCnt
 STATE           power-up, ready, selected P, waiting idn (or select, send,
                 idle, echo), lost; and ', calibrating'
-Any call may answer 'refused N', and a line that is no call answers
+A call may answer 'refused N', and a line that is no call answers
 'error: line L, column C: ..'. BYTES are pairs of hex digits, N is decimal.
 docs/CALLS.md has every call, every answer, and what to do about each refusal.",
     )
