@@ -3,3 +3,4 @@ pub mod Hearing
 pub mod OneCall
 pub mod Answered
 pub mod OneLine
+pub mod Fresh

@@ -53,3 +53,9 @@ abbrev pub OneLine : Type 0
 OneLine =
     (heard : Heard) (r r′ : Done) (bytes bytes′ out out′ room room′ text text′ : List ℕ) → Hears heard r bytes out room text
     → Hears heard r′ bytes′ out′ room′ text′ → (r ≡ r′) × (bytes ≡ bytes′) × (out ≡ out′) × (room ≡ room′) × (text ≡ text′)
+
+-- of what the buffer for the bytes of a line held before, only its length matters
+abbrev pub Fresh : Type 0
+Fresh =
+    (line : List ℕ) (number : ℕ) (post : Post) (bytes other out room text : List ℕ) → length bytes ≡ length other
+    → answered line number post bytes out room text .left ≡ answered line number post other out room text .left

@@ -12,7 +12,7 @@ const LINE: usize = desk::LONGEST + 2;
 // Room for the bytes of the longest line, two digits each.
 const BYTES: usize = desk::LONGEST / 2;
 
-// Room for the longest answer, which is that to a send of as many bytes as a line has.
+// Room for the longest answer: all bytes of the longest line, three places each.
 const TEXT: usize = 8192;
 
 // What is kept from line to line.

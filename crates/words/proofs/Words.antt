@@ -19,6 +19,11 @@ pub ways : {A : Type 0} (P : A → Type 0) (b : Bool) {x y : A} → (b ≡ true 
 ways P true h k = h refl
 ways P false h k = k refl
 
+-- and what holds of each two choices by one test holds of both
+pub ways₂ : {A : Type 0} (P : A → A → Type 0) (b : Bool) {x y x′ y′ : A} → (b ≡ true → P x x′) → (b ≡ false → P y y′) → P (pick b x y) (pick b x′ y′)
+ways₂ P true h k = h refl
+ways₂ P false h k = k refl
+
 -- n elements from index i on
 abbrev pub elements : ℕ → ℕ → List ℕ → List ℕ
 elements zero i xs = []
