@@ -11,7 +11,8 @@ returns c =
     let put = c .before .before in
     let long = put .before .before in
     let a = long .before .before .before .before .before .before .args in
-    too-long (a .post) (now (a .out)) (now (a .room)) (now (a .text)) (now (a .bytes)) (now (a .line)) (a .number) (long .if1 .taken) (put .put .ensures)
+    too-long (a .post) (now (a .out)) (now (a .room)) (now (a .text)) (now (a .bytes)) (now (a .line)) (a .number) {n = put .put .result} {text′ = put .put .last .0}
+    (long .if1 .taken) (put .put .ensures)
 
 returns-2 : tie.Need-returns-2
 returns-2 c =
