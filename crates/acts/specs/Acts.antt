@@ -1,7 +1,7 @@
 -- The call of the session that a line makes, on as much of a buffer as is lent.
 -- Assumes nothing.
 use Prim.Native.Nat.{ℕ, _%_}
-use mathlib.Core.List.{List, _++_}
+use mathlib.Core.List.{List}
 use lib.Dec.{eqb}
 use Rattle.model.specs.declared.Interface.{Interface}
 use Rattle.model.specs.declared.Interface.the-variants.{Spi, Uart}
@@ -12,7 +12,7 @@ use Rattle.words.specs.Words.{pick}
 use Rattle.words.specs.Contract.{Ran}
 use Rattle.model.specs.Frames.{command}
 use Rattle.model.specs.Session.{power-on, pulse, request, reset, poll, read, calibrate, next, step}
-use Rattle.lines.specs.Lines.{fore, rest, byteAt}
+use Rattle.lines.specs.Lines.{byteAt}
 use Rattle.calls.specs.declared.Act.{Act}
 use Rattle.calls.specs.declared.Act.the-variants.{PowerOn, Pulse, Sends, Reset, Poll, Read, Calibrate, Next}
 
@@ -48,7 +48,3 @@ acted s Poll number given out = step s (poll out)
 acted s Read number given out = step s (read number out)
 acted s Calibrate number given out = step s (calibrate (planOf number given) out)
 acted s Next number given out = step s (next out)
-
--- on the first n bytes of a buffer, and the rest is as it was
-abbrev pub onFront : ℕ → List ℕ → (List ℕ → Ran Outcome) → Ran Outcome
-onFront n buffer run = let ran = run (fore buffer n) in record { answer = ran .answer; bytes = ran .bytes ++ rest buffer n }

@@ -1,8 +1,8 @@
 // The call of the session that a line makes, on as much of a buffer as is lent.
 ghost use mathlib.Core.Path.{_≡_};
-ghost use Rattle.words.specs.Contract.{Is};
+ghost use Rattle.words.specs.Contract.{Is, onFront};
 ghost use Rattle.model.specs.Session.{feed, step};
-ghost use Rattle.acts.specs.Acts.{interfaceOf, planOf, acted, onFront};
+ghost use Rattle.acts.specs.Acts.{interfaceOf, planOf, acted};
 use calls::Act;
 use model::Interface;
 use model::Outcome;

@@ -1,19 +1,22 @@
--- No two calls share a name, and that of a command sends it.
+-- No two calls share a name, that of a command sends it, and that of a command message writes it.
 -- Assumes nothing.
 use Prim.Native.Nat.{ℕ, _<_}
 use mathlib.Core.Path.{_≡_, refl, sym, ap, _∙_}
 use mathlib.Core.List.{List}
 use lib.Dec.{T, eqb, eqb→eq}
+use lib.ListN.{length}
 use Rattle.words.proofs.Words.{all, each}
 use Rattle.model.specs.declared.Kind.the-variants.{Idn, ProtocolSelect, SendRecv, Idle, Echo}
+use Rattle.model.specs.declared.Message.{Message}
+use Rattle.model.specs.declared.Message.the-variants.{GetFirmwareVersion, Inventory, GoToTagDetectingState, IsWakeUp, CalibrateTagDetecting}
 use Rattle.calls.specs.Calls.{rows, nameOf, position}
-use Rattle.calls.specs.Claims.{OneName, EachSent}
+use Rattle.calls.specs.Claims.{OneName, EachSent, EachAsked}
 
 -- what two functions say of each row, by one computed test
-pub agree : (f g : ℕ → ℕ) → T (all (λ (j : ℕ). eqb (f j) (g j)) 22) → (k : ℕ) → k < 22 → f k ≡ g k
-agree f g t k h = eqb→eq (f k) (g k) (each (λ (j : ℕ). eqb (f j) (g j)) 22 t k h)
+pub agree : (f g : ℕ → ℕ) → T (all (λ (j : ℕ). eqb (f j) (g j)) (length rows)) → (k : ℕ) → k < length rows → f k ≡ g k
+agree f g t k h = eqb→eq (f k) (g k) (each (λ (j : ℕ). eqb (f j) (g j)) (length rows) t k h)
 
-pub number-of-name : (k : ℕ) → k < 22 → position (nameOf k) rows ≡ k
+pub number-of-name : (k : ℕ) → k < length rows → position (nameOf k) rows ≡ k
 number-of-name = agree (λ (j : ℕ). position (nameOf j) rows) (λ (j : ℕ). j) tt
 
 pub one-name : OneName
@@ -25,3 +28,11 @@ each-sent ProtocolSelect = refl
 each-sent SendRecv = refl
 each-sent Idle = refl
 each-sent Echo = refl
+
+pub each-asked : EachAsked
+each-asked Message.Idn = refl
+each-asked GetFirmwareVersion = refl
+each-asked Inventory = refl
+each-asked GoToTagDetectingState = refl
+each-asked IsWakeUp = refl
+each-asked CalibrateTagDetecting = refl

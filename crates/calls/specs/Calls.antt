@@ -6,16 +6,20 @@ use mathlib.Core.List.{List, [], _∷_}
 use lib.ListN.{getD}
 use Rattle.model.specs.declared.Kind.{Kind}
 use Rattle.model.specs.declared.Kind.the-variants.{Idn, ProtocolSelect, SendRecv, Idle, Echo}
+use Rattle.model.specs.declared.Message.{Message}
+use Rattle.model.specs.declared.Message.the-variants.{GetFirmwareVersion, Inventory, GoToTagDetectingState, IsWakeUp, CalibrateTagDetecting}
 use Rattle.words.specs.Words.{pick}
 use Rattle.lines.specs.Lines.{same}
 use Rattle.text.specs.Writing.{word}
 use Rattle.calls.specs.declared.Act.the-variants.{PowerOn, Pulse, Sends, Reset, Poll, Read, Calibrate, Next}
 use Rattle.calls.specs.declared.Question.the-variants.{Times, Wait, Band, Command, Flags, Received}
+use Rattle.calls.specs.declared.Board.the-variants.{Asks, Reads, Answers, Fails, Replies}
 use Rattle.calls.specs.declared.Buffer.the-variants.{Out, Room}
+use Rattle.calls.specs.declared.Fault.the-variants.{NoProtocol, NoCode}
 use Rattle.calls.specs.declared.Shape.{Shape}
-use Rattle.calls.specs.declared.Shape.the-variants.{Nothing, Interface, Numbered, Exactly, Protocol, Any}
+use Rattle.calls.specs.declared.Shape.the-variants.{Nothing, Interface, Numbered, Exactly, Led, Any}
 use Rattle.calls.specs.declared.Verb.{Verb}
-use Rattle.calls.specs.declared.Verb.the-variants.{Acts, Feeds, Tells, Sets, Helps}
+use Rattle.calls.specs.declared.Verb.the-variants.{Acts, Feeds, Tells, Speaks, Sets, Helps}
 
 -- ---- what a call takes
 
@@ -43,7 +47,7 @@ rows =
     row "power-on" (Acts PowerOn) Interface
     ∷ row "pulse" (Acts Pulse) Nothing
     ∷ row "idn" (Acts (Sends Idn)) Nothing
-    ∷ row "select" (Acts (Sends ProtocolSelect)) Protocol
+    ∷ row "select" (Acts (Sends ProtocolSelect)) (Led NoProtocol)
     ∷ row "send" (Acts (Sends SendRecv)) Any
     ∷ row "idle" (Acts (Sends Idle)) (Exactly 14)
     ∷ row "echo" (Acts (Sends Echo)) Nothing
@@ -59,6 +63,16 @@ rows =
     ∷ row "command" (Tells Command) Any
     ∷ row "flags" (Tells Flags) (Exactly 1)
     ∷ row "received" (Tells Received) Any
+    ∷ row "usb-idn" (Speaks (Asks Message.Idn)) Nothing
+    ∷ row "usb-firmware" (Speaks (Asks GetFirmwareVersion)) Nothing
+    ∷ row "usb-inventory" (Speaks (Asks Inventory)) (Exactly 1)
+    ∷ row "usb-detect" (Speaks (Asks GoToTagDetectingState)) (Exactly 2)
+    ∷ row "usb-awake" (Speaks (Asks IsWakeUp)) Nothing
+    ∷ row "usb-calibrate" (Speaks (Asks CalibrateTagDetecting)) Nothing
+    ∷ row "usb" (Speaks Reads) Any
+    ∷ row "usb-answer" (Speaks Answers) (Led NoCode)
+    ∷ row "usb-error" (Speaks Fails) (Exactly 1)
+    ∷ row "usb-reply" (Speaks Replies) (Led NoCode)
     ∷ row "out" (Sets Out) (Numbered longest 0)
     ∷ row "room" (Sets Room) (Numbered longest 0)
     ∷ row "help" Helps Nothing
@@ -87,6 +101,18 @@ sentBy Echo = 6
 
 abbrev pub kindName : Kind → List ℕ
 kindName kind = nameOf (sentBy kind)
+
+-- the number of the call that writes a command message, and its name
+abbrev pub askedBy : Message → ℕ
+askedBy Message.Idn = 19
+askedBy GetFirmwareVersion = 20
+askedBy Inventory = 21
+askedBy GoToTagDetectingState = 22
+askedBy IsWakeUp = 23
+askedBy CalibrateTagDetecting = 24
+
+abbrev pub messageName : Message → List ℕ
+messageName message = nameOf (askedBy message)
 
 -- the number of a word: how many rows come before its own, or how many there are
 abbrev pub position : List ℕ → List Row → ℕ

@@ -1,12 +1,14 @@
--- What is promised of names: no two calls share one, and that of a command sends it.
+-- What is promised of names: no two calls share one, that of a command sends it, and that of a command message writes it.
 -- Assumes nothing.
 use Prim.Native.Nat.{ℕ, _<_}
 use mathlib.Core.Path.{_≡_}
 use lib.ListN.{length}
 use Rattle.model.specs.declared.Kind.{Kind}
+use Rattle.model.specs.declared.Message.{Message}
 use Rattle.calls.specs.declared.Act.the-variants.{Sends}
-use Rattle.calls.specs.declared.Verb.the-variants.{Acts}
-use Rattle.calls.specs.Calls.{rows, nameOf, callOf, sentBy}
+use Rattle.calls.specs.declared.Board.the-variants.{Asks}
+use Rattle.calls.specs.declared.Verb.the-variants.{Acts, Speaks}
+use Rattle.calls.specs.Calls.{rows, nameOf, callOf, sentBy, askedBy}
 
 -- the names of two rows differ
 abbrev pub OneName : Type 0
@@ -15,3 +17,7 @@ OneName = (j k : ℕ) → j < length rows → k < length rows → nameOf j ≡ n
 -- the call that is named for a command sends it
 abbrev pub EachSent : Type 0
 EachSent = (kind : Kind) → callOf (sentBy kind) ≡ Acts (Sends kind)
+
+-- the call that is named for a command message writes it
+abbrev pub EachAsked : Type 0
+EachAsked = (m : Message) → callOf (askedBy m) ≡ Speaks (Asks m)

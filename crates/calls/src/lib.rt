@@ -2,10 +2,11 @@
 ghost use mathlib.Core.Path.{_≡_};
 ghost use mathlib.Core.List.{[], _∷_};
 ghost use Rattle.words.specs.Words.{pick};
-ghost use Rattle.lines.specs.Lines.{between, same};
+ghost use Rattle.lines.specs.Lines.{byteAt, between, same};
 ghost use Rattle.text.specs.Writing.{Puts};
-ghost use Rattle.calls.specs.Calls.{rows, kindName, position};
+ghost use Rattle.calls.specs.Calls.{rows, kindName, messageName, position};
 use model::Kind;
+use model::Message;
 
 // A call of the session that is fed nothing.
 pub enum Act {
@@ -30,6 +31,20 @@ pub enum Question {
     Received,
 }
 
+// A call on the messages of the demo board.
+pub enum Board {
+    // writes a command message
+    Asks(Message),
+    // reads one
+    Reads,
+    // writes an answer
+    Answers,
+    // writes the answer with an error code of the MCU's
+    Fails,
+    // reads an answer
+    Replies,
+}
+
 // A buffer that the caller lends.
 pub enum Buffer {
     Out,
@@ -41,6 +56,7 @@ pub enum Verb {
     Acts(Act),
     Feeds,
     Tells(Question),
+    Speaks(Board),
     Sets(Buffer),
     Helps,
 }
@@ -63,6 +79,8 @@ pub enum Fault {
     Count { given: usize, wanted: usize },
     // no protocol byte
     NoProtocol,
+    // no code of a command
+    NoCode,
     // a number above the greatest
     Above { given: usize, greatest: usize },
 }
@@ -87,13 +105,13 @@ pub enum Shape {
     // a number, and so many bytes
     Numbered { greatest: usize, wanted: usize },
     Exactly { wanted: usize },
-    // a protocol, then any bytes
-    Protocol,
+    // one byte or more: what is missing where there is none
+    Led { missing: Fault },
     Any,
 }
 
 // How many names there are.
-pub const CALLS: u8 = 22;
+pub const CALLS: u8 = 32;
 
 // Puts the name of the call that sends a command.
 pub fn put_kind(text: &mut [u8], at: usize, kind: Kind) -> usize
@@ -108,6 +126,20 @@ pub fn put_kind(text: &mut [u8], at: usize, kind: Kind) -> usize
     }
 }
 
+// Puts the name of the call that writes a command message.
+pub fn put_message(text: &mut [u8], at: usize, message: Message) -> usize
+    ensures { λ r. ⌜ Puts (now (text .entry)) at (messageName message ∷ []) r (now (text .exit)) ⌝ }
+{
+    match message {
+        Message::Idn => text::put(text, at, b"usb-idn"),
+        Message::GetFirmwareVersion => text::put(text, at, b"usb-firmware"),
+        Message::Inventory => text::put(text, at, b"usb-inventory"),
+        Message::GoToTagDetectingState => text::put(text, at, b"usb-detect"),
+        Message::IsWakeUp => text::put(text, at, b"usb-awake"),
+        Message::CalibrateTagDetecting => text::put(text, at, b"usb-calibrate"),
+    }
+}
+
 // A number if the word is its name, and otherwise another.
 fn either<'a>(word: &'a [u8], name: &'a [u8], k: u8, otherwise: u8) -> u8
     ensures { λ r. ⌜ r ≡ pick (same (now (word .entry)) (now (name .entry))) k otherwise ⌝ }
@@ -116,6 +148,35 @@ fn either<'a>(word: &'a [u8], name: &'a [u8], k: u8, otherwise: u8) -> u8
         return k;
     }
     otherwise
+}
+
+// The number of a name that begins with u, by its fifth letter; usb has none, which is read as a blank.
+fn message_number(word: &[u8]) -> u8
+    requires { ⌜ byteAt (now word) 0 ≡ 117 ⌝ }
+    ensures { λ r. ⌜ r ≡ position (now (word .entry)) rows ⌝ }
+{
+    let fifth = lines::at(word, 4);
+    match fifth {
+        b' ' => either(word, b"usb", 25, CALLS),
+        b'a' => either(
+            word,
+            b"usb-awake",
+            23,
+            either(word, b"usb-answer", 26, CALLS),
+        ),
+        b'c' => either(word, b"usb-calibrate", 24, CALLS),
+        b'd' => either(word, b"usb-detect", 22, CALLS),
+        b'e' => either(word, b"usb-error", 27, CALLS),
+        b'f' => either(word, b"usb-firmware", 20, CALLS),
+        b'i' => either(
+            word,
+            b"usb-idn",
+            19,
+            either(word, b"usb-inventory", 21, CALLS),
+        ),
+        b'r' => either(word, b"usb-reply", 28, CALLS),
+        _ => CALLS,
+    }
 }
 
 // The number of a name, by its first letter, or how many names there are for none.
@@ -128,10 +189,10 @@ fn number(word: &[u8]) -> u8
         b'c' => either(word, b"calibrate", 10, either(word, b"command", 16, CALLS)),
         b'e' => either(word, b"echo", 6, CALLS),
         b'f' => either(word, b"feed", 12, either(word, b"flags", 17, CALLS)),
-        b'h' => either(word, b"help", 21, CALLS),
+        b'h' => either(word, b"help", 31, CALLS),
         b'i' => either(word, b"idn", 2, either(word, b"idle", 5, CALLS)),
         b'n' => either(word, b"next", 11, CALLS),
-        b'o' => either(word, b"out", 19, CALLS),
+        b'o' => either(word, b"out", 29, CALLS),
         b'p' => either(
             word,
             b"power-on",
@@ -146,11 +207,12 @@ fn number(word: &[u8]) -> u8
                 word,
                 b"read",
                 9,
-                either(word, b"received", 18, either(word, b"room", 20, CALLS)),
+                either(word, b"received", 18, either(word, b"room", 30, CALLS)),
             ),
         ),
         b's' => either(word, b"select", 3, either(word, b"send", 4, CALLS)),
         b't' => either(word, b"times", 13, CALLS),
+        b'u' => message_number(word),
         b'w' => either(word, b"wait", 14, CALLS),
         _ => CALLS,
     }

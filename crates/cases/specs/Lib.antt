@@ -17,4 +17,5 @@ pub mod Ending
 pub mod Histories
 pub mod Chips
 pub mod Company
+pub mod Messages
 pub mod Small

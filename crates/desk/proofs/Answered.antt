@@ -19,10 +19,17 @@ use Rattle.model.specs.declared.Kind.the-variants.{Idn, ProtocolSelect, SendRec
 use Rattle.model.specs.declared.Reading.{Reading}
 use Rattle.model.specs.declared.Reading.the-variants.{Taken}
 use Rattle.model.specs.declared.Reading.the-variants.{Refused as NoFrame}
-use Rattle.words.specs.Words.{bit}
+use Rattle.model.specs.declared.Written.{Written}
+use Rattle.model.specs.declared.Message.{Message}
+use Rattle.model.specs.declared.Message.the-variants.{GetFirmwareVersion, Inventory, GoToTagDetectingState, IsWakeUp, CalibrateTagDetecting}
+use Rattle.model.specs.declared.Named.{Named}
+use Rattle.model.specs.declared.CommandRead.{CommandRead}
+use Rattle.model.specs.declared.AnswerRead.{AnswerRead}
+use Rattle.words.specs.Words.{bit, within}
 use Rattle.words.specs.Contract.{Ran}
 use Rattle.model.specs.Frames.{settings, settingsAllowed, readCommand}
 use Rattle.model.specs.Calibration.{band}
+use Rattle.model.specs.Messages.{row, named, readMessage, readAnswer}
 use Rattle.words.proofs.Words.{ways}
 use Rattle.lines.specs.Lines.{fore, rest, byteAt, skipped}
 use Rattle.text.specs.Writing.{written, word, hexes}
@@ -31,20 +38,23 @@ use Rattle.calls.specs.declared.Question.the-variants.{Times, Wait, Command, Re
 use Rattle.calls.specs.declared.Question.the-variants.{Band as BandOf}
 use Rattle.calls.specs.declared.Question.the-variants.{Flags as FlagsOf}
 use Rattle.calls.specs.declared.Verb.{Verb}
-use Rattle.calls.specs.declared.Verb.the-variants.{Acts, Feeds, Tells, Sets, Helps}
+use Rattle.calls.specs.declared.Verb.the-variants.{Acts, Feeds, Tells, Speaks, Sets, Helps}
 use Rattle.calls.specs.declared.Fault.{Fault}
 use Rattle.calls.specs.declared.Fault.the-variants.{TooLong, Unknown}
 use Rattle.calls.specs.declared.Asked.{Asked}
 use Rattle.calls.specs.declared.Asked.the-variants.{Understood, Wrong}
-use Rattle.calls.specs.Calls.{kindName}
+use Rattle.calls.specs.declared.Board.{Board}
+use Rattle.calls.specs.declared.Board.the-variants.{Asks, Reads, Answers, Fails, Replies}
+use Rattle.calls.specs.Calls.{kindName, messageName}
 use Rattle.reading.specs.Asking.{asked}
 use Rattle.faults.specs.Faults.{faultText}
 use Rattle.help.specs.Page.{page}
 use Rattle.answers.specs.Answers.{answerText, usedText}
 use Rattle.standing.specs.Standing.{stateText}
 use Rattle.questions.specs.Questions.{guardText, readingText, questionText}
+use Rattle.board.specs.Board.{writtenText, commandText, tells, contentsText, readText, replyText, spokenText}
 use Rattle.desk.specs.declared.Post.{Post}
-use Rattle.desk.specs.Desk.{Left, Heard, acting, feeding, obeyed, carriedOut, longest}
+use Rattle.desk.specs.Desk.{Left, Heard, acting, feeding, speaking, obeyed, carriedOut, longest}
 use Rattle.desk.specs.Claims.{Unmoved, Shortened, Answered}
 
 pub unmoved : Unmoved
@@ -99,6 +109,40 @@ question-short Command given = reading-short given (readCommand given)
 question-short FlagsOf given = tt
 question-short Received given = tt
 
+written-short : (told : Written) (out : List ℕ) → T (short (writtenText told out))
+written-short (Written.Sent n) out = tt
+written-short (Written.Refused refusal) out = tt
+
+-- the name of each message's call, and the word of its answer
+message-short : (m : Message) (more : List (List ℕ)) → T (short (messageName m ∷ more)) × T (short (tells m ∷ more))
+message-short Message.Idn more = (tt, tt)
+message-short GetFirmwareVersion more = (tt, tt)
+message-short Inventory more = (tt, tt)
+message-short GoToTagDetectingState more = (tt, tt)
+message-short IsWakeUp more = (tt, tt)
+message-short CalibrateTagDetecting more = (tt, tt)
+
+command-short : (given : List ℕ) (read : CommandRead) → T (short (commandText given read))
+command-short given (CommandRead.Taken m p) = message-short m (hexes (within given p)) .0
+command-short given CommandRead.Malformed = tt
+
+read-short : (m : Message) (xs : List ℕ) (read : AnswerRead) → T (short (readText m xs read))
+read-short m xs (AnswerRead.Carries p) = message-short m (contentsText (row m .contents) (within xs p)) .1
+read-short m xs (AnswerRead.BoardError code) = tt
+read-short m xs (AnswerRead.ChipError code) = tt
+read-short m xs AnswerRead.Malformed = tt
+
+reply-short : (found : Named) (xs : List ℕ) → T (short (replyText found xs))
+reply-short (Named.Known m) xs = read-short m xs (readAnswer m xs)
+reply-short Named.Unknown xs = tt
+
+spoken-short : (what : Board) (given : List ℕ) (ran : Ran Written) → T (short (spokenText what given ran))
+spoken-short (Asks m) given ran = written-short (ran .answer) (ran .bytes)
+spoken-short Reads given ran = command-short given (readMessage given)
+spoken-short Answers given ran = written-short (ran .answer) (ran .bytes)
+spoken-short Fails given ran = written-short (ran .answer) (ran .bytes)
+spoken-short Replies given ran = reply-short (named (byteAt given 0)) (rest given 1)
+
 -- ---- and what begins with a word that fits is no empty text
 
 grows : (text : List ℕ) (at : ℕ) (parts : List (List ℕ)) → at ≤ written text at parts .answer
@@ -134,6 +178,8 @@ module _ (post : Post) (out room text : List ℕ) (fits : length page ≤ length
       let ran = feeding post given room in
       let o = ran .answer in answer-begun (o .answer) [] (usedText (o .used) (o .place) given (ran .bytes) ++ stateText (o .session))
   by-obeyed (Tells question) number given = begun-short text (questionText question given) (question-short question given) long
+  by-obeyed (Speaks what) number given =
+      let ran = speaking post what given out in begun-short text (spokenText what given ran) (spoken-short what given ran) long
   by-obeyed (Sets buffer) number given = begun text (word "ok") (stateText (post .session)) (omega arith) (omega arith)
   by-obeyed Helps number given = begun text page [] (omega arith) fits
 

@@ -15,7 +15,7 @@ use Rattle.calls.specs.declared.Act.{Act}
 use Rattle.calls.specs.declared.Act.the-variants.{PowerOn, Pulse, Sends, Reset, Poll, Read, Calibrate, Next}
 use Rattle.calls.specs.declared.Buffer.the-variants.{Out, Room}
 use Rattle.calls.specs.declared.Verb.{Verb}
-use Rattle.calls.specs.declared.Verb.the-variants.{Acts, Feeds, Tells, Sets, Helps}
+use Rattle.calls.specs.declared.Verb.the-variants.{Acts, Feeds, Tells, Speaks, Sets, Helps}
 use Rattle.calls.specs.declared.Asked.{Asked}
 use Rattle.calls.specs.declared.Asked.the-variants.{Understood, Wrong}
 use Rattle.reading.specs.Asking.{asked}
@@ -42,6 +42,7 @@ module _ (post : Post) (out room text : List ℕ) where
   by-obeyed (Acts act) number given = inr (act-made (post .session) act number given (fore out (post .out)))
   by-obeyed Feeds number given = inr (record { call = feed given (fore room (post .room)); is = refl })
   by-obeyed (Tells question) number given = inl refl
+  by-obeyed (Speaks what) number given = inl refl
   by-obeyed (Sets Out) number given = inl refl
   by-obeyed (Sets Room) number given = inl refl
   by-obeyed Helps number given = inl refl

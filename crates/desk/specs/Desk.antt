@@ -7,16 +7,18 @@ use lib.Dec.{leb, ltb, eqb}
 use lib.ListN.{length}
 use Rattle.model.specs.declared.Session.{Session}
 use Rattle.model.specs.declared.Outcome.{Outcome}
+use Rattle.model.specs.declared.Written.{Written}
 use Rattle.words.specs.Words.{pick}
-use Rattle.words.specs.Contract.{Ran, Is}
+use Rattle.words.specs.Contract.{Ran, Is, onFront}
 use Rattle.model.specs.Session.{feed, step}
 use Rattle.lines.specs.Lines.{fore, byteAt, skipped}
 use Rattle.text.specs.Writing.{written, word}
 use Rattle.calls.specs.declared.Act.{Act}
+use Rattle.calls.specs.declared.Board.{Board}
 use Rattle.calls.specs.declared.Buffer.{Buffer}
 use Rattle.calls.specs.declared.Buffer.the-variants.{Out, Room}
 use Rattle.calls.specs.declared.Verb.{Verb}
-use Rattle.calls.specs.declared.Verb.the-variants.{Acts, Feeds, Tells, Sets, Helps}
+use Rattle.calls.specs.declared.Verb.the-variants.{Acts, Feeds, Tells, Speaks, Sets, Helps}
 use Rattle.calls.specs.declared.Fault.{Fault}
 use Rattle.calls.specs.declared.Fault.the-variants.{TooLong}
 use Rattle.calls.specs.declared.Asked.{Asked}
@@ -27,7 +29,8 @@ use Rattle.help.specs.Page.{page}
 use Rattle.answers.specs.Answers.{answerText, usedText}
 use Rattle.standing.specs.Standing.{stateText}
 use Rattle.questions.specs.Questions.{questionText}
-use Rattle.acts.specs.Acts.{acted, onFront}
+use Rattle.board.specs.Board.{wrote, spokenText}
+use Rattle.acts.specs.Acts.{acted}
 use Rattle.desk.specs.declared.Post.{Post}
 use Rattle.desk.specs.declared.Done.{Done}
 
@@ -82,6 +85,10 @@ feedTold post piece ran text =
 abbrev pub setTold : Post → Buffer → ℕ → List ℕ → Ran Done
 setTold post buffer n text = saying (lending post buffer n) (word "ok" ∷ stateText (post .session)) text
 
+-- a call on the board's messages, on as much of the output as is lent
+abbrev pub speaking : Post → Board → List ℕ → List ℕ → Ran Written
+speaking post what given out = onFront (post .out) out (λ front. wrote what given front)
+
 abbrev pub obeyed : Verb → Post → ℕ → List ℕ → List ℕ → List ℕ → List ℕ → Left
 obeyed (Acts act) post number given out room text =
     let ran = acting post act number given out in record { done = actTold post ran text; out = ran .bytes; room = room }
@@ -89,6 +96,8 @@ obeyed Feeds post number given out room text =
     let ran = feeding post given room in record { done = feedTold post given ran text; out = out; room = ran .bytes }
 obeyed (Tells question) post number given out room text =
     record { done = saying post (questionText question given) text; out = out; room = room }
+obeyed (Speaks what) post number given out room text =
+    let ran = speaking post what given out in record { done = saying post (spokenText what given ran) text; out = ran .bytes; room = room }
 obeyed (Sets buffer) post number given out room text = record { done = setTold post buffer number text; out = out; room = room }
 obeyed Helps post number given out room text = record { done = saying post (page ∷ []) text; out = out; room = room }
 

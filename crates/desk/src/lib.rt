@@ -112,6 +112,10 @@ fn obey(
             post,
             n: questions::answer(question, given, text),
         },
+        Verb::Speaks(what) => Done {
+            post,
+            n: board::answer(what, given, out, post.out, text),
+        },
         Verb::Sets(buffer) => set(post, buffer, number, text),
         Verb::Helps => Done {
             post,

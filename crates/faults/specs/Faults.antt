@@ -6,7 +6,7 @@ use lib.Dec.{ltb}
 use Rattle.words.specs.Words.{pick}
 use Rattle.text.specs.Writing.{word, number}
 use Rattle.calls.specs.declared.Fault.{Fault}
-use Rattle.calls.specs.declared.Fault.the-variants.{TooLong, Unknown, Longer, NoPair, NoNumber, NoInterface, Count, NoProtocol, Above}
+use Rattle.calls.specs.declared.Fault.the-variants.{TooLong, Unknown, Longer, NoPair, NoNumber, NoInterface, Count, NoProtocol, NoCode, Above}
 
 -- columns are counted from 1, as far as 64 bits go
 abbrev pub column : ℕ → List (List ℕ)
@@ -29,6 +29,7 @@ whatText NoNumber = word "no number; expected one to nine decimal digits" ∷ []
 whatText NoInterface = word "no interface; expected spi or uart" ∷ []
 whatText (Count n wanted) = given (word "bytes given:") n (word "; expected") wanted
 whatText NoProtocol = word "no protocol; expected its byte, then the parameters" ∷ []
+whatText NoCode = word "no code; expected the command's byte, then the answer" ∷ []
 whatText (Above n greatest) = given (word "too great:") n (word "; expected at most") greatest
 
 abbrev pub faultText : ℕ → ℕ → Fault → List (List ℕ)

@@ -63,6 +63,11 @@ fn put_what(text: &mut [u8], at: usize, fault: Fault) -> usize
             at,
             b"no protocol; expected its byte, then the parameters",
         ),
+        Fault::NoCode => text::put(
+            text,
+            at,
+            b"no code; expected the command's byte, then the answer",
+        ),
         Fault::Above { given, greatest } => put_given(
             text,
             at,

@@ -29,6 +29,16 @@ band RR              the guard band of a reference        band LL HH
 command BYTES        the call that sends these bytes      idn, select PP ..
 flags BB             what the flags of a poll say         read yes send no
 received BYTES       what a poll or a read brought back   bytes BYTES
+usb-idn              IDN, as the board's message          bytes BYTES
+usb-firmware         GetFirmwareVersion, as a message     bytes BYTES
+usb-inventory FF     inventory of 16 slots, its flags     bytes BYTES
+usb-detect LL HH     GoToTagDetectingState, its DacData   bytes BYTES
+usb-awake            IsWakeUp, as a message               bytes BYTES
+usb-calibrate        CalibrateTagDetecting, as a message  bytes BYTES
+usb BYTES            the call that writes this message    usb-idn, usb-awake ..
+usb-answer CC BYTES  an answer to the command CC          bytes BYTES
+usb-error CODE       the answer with the MCU's CODE       bytes CODE 00
+usb-reply CC BYTES   the answer to CC, taken apart        as below
 out N                the lent output's length from now    ok [STATE]
 room N               the reply room's length from now     ok [STATE]
 help                 this page
@@ -43,6 +53,9 @@ and at the end of a calibration
                 refused 12 CODE commands N used N [STATE]
 calibrate       P is the prescaler; the bytes are the enter, wake-up and leave
                 pairs, WuPeriod, OscStart, DacStart and SwingCnt
+usb-reply       name BYTES, firmware VV VV VV, inventory K BYTES, detecting,
+                irq-out low or high, calibrated LL HH; or error CODE
+CC              a command's code: 01, BC, A1, A3, A2, A4, in the order above
 STATE           power-up, ready, selected P, waiting idn (or select, send,
                 idle, echo), lost; and ', calibrating'
 A call may answer 'refused N', and a line that is no call answers

@@ -21,7 +21,7 @@ fn entry(code: u8, least: usize, greatest: usize, rule: Rule) -> Row
     }
 }
 
-fn row_of(kind: Kind) -> Row
+pub fn row_of(kind: Kind) -> Row
     ensures { λ r. ⌜ r ≡ row kind ⌝ }
 {
     match kind {

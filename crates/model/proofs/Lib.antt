@@ -1,3 +1,4 @@
+pub mod AtMessages
 pub mod AtValues
 pub mod Ordering
 pub mod Frames
@@ -19,3 +20,4 @@ pub mod Giving
 pub mod Run
 pub mod Exactness
 pub mod Outcomes
+pub mod Messages

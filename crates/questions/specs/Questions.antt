@@ -10,7 +10,7 @@ use Rattle.model.specs.declared.Reading.the-variants.{Taken}
 use Rattle.model.specs.declared.Reading.the-variants.{Refused as NoFrame}
 use Rattle.model.specs.declared.Flags.{Flags}
 use Rattle.model.specs.Frames.{settings, readCommand, flags, received}
-use Rattle.model.specs.Refusals.{Number, none, number as numbered, bandNumber}
+use Rattle.model.specs.Refusals.{bandNumber}
 use Rattle.model.specs.Calibration.{band}
 use Rattle.lines.specs.Lines.{rest, byteAt}
 use Rattle.text.specs.Writing.{word, hex, hexes}
@@ -19,15 +19,10 @@ use Rattle.calls.specs.declared.Question.the-variants.{Times, Wait, Command, Re
 use Rattle.calls.specs.declared.Question.the-variants.{Band as BandOf}
 use Rattle.calls.specs.declared.Question.the-variants.{Flags as FlagsOf}
 use Rattle.calls.specs.Calls.{kindName}
-use Rattle.refusals.specs.Refusals.{refusedText, refusalText}
+use Rattle.refusals.specs.Refusals.{numberText, refusalText}
 use Rattle.durations.specs.Durations.{timesText, waitText}
 
 -- ---- the guard band
-
--- a refusal by the number that the model gives it
-abbrev pub numberText : Number → List (List ℕ)
-numberText none = []
-numberText (numbered n) = refusedText n
 
 abbrev pub guardText : Guard → List (List ℕ)
 guardText (Band low high) = word "band" ∷ hex low ∷ hex high ∷ []

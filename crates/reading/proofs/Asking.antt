@@ -97,12 +97,12 @@ module _ (line buffer : List ℕ) {start end k : ℕ} (starts : start ≡ skippe
   by-word : {r : Asked} {exit : List ℕ} → Is (run-of k end) r exit → Is (asked line buffer) r exit
   by-word did = rw (← starts, ← ends, ← is) did
 
-  pub by-name : {call : Verb} {shape : Shape} {from : ℕ} {r : Asked} {exit : List ℕ} → k < 22 → call ≡ callOf k → shape ≡ shapeOf k
+  pub by-name : {call : Verb} {shape : Shape} {from : ℕ} {r : Asked} {exit : List ℕ} → k < length rows → call ≡ callOf k → shape ≡ shapeOf k
       → from ≡ skipped line end → Is (readShape call shape line from buffer) r exit → Is (asked line buffer) r exit
   by-name {call} {shape} {from} {r} {exit} h c t f did =
       by-word
-      (simp (lt-ltb k 22 h)
+      (simp (lt-ltb k (length rows) h)
       (rw (← f) (subst (λ (x : Verb). Is (readShape x (shapeOf k) line from buffer) r exit) c (by-shape call line from buffer (sym t) did))))
 
-  pub no-name : 22 ≤ k → Is (asked line buffer) (Wrong start Unknown) buffer
-  no-name h = by-word (simp (le-ltb k 22 h) (record { answer = refl; bytes = refl }))
+  pub no-name : length rows ≤ k → Is (asked line buffer) (Wrong start Unknown) buffer
+  no-name h = by-word (simp (le-ltb k (length rows) h) (record { answer = refl; bytes = refl }))

@@ -22,11 +22,12 @@ use Rattle.digits.specs.Claims.{countOf}
 use Rattle.digits.proofs.Fresh.{fresh as bytes-fresh}
 use Rattle.calls.specs.declared.Verb.{Verb}
 use Rattle.calls.specs.declared.Shape.{Shape}
-use Rattle.calls.specs.declared.Shape.the-variants.{Nothing, Interface, Numbered, Exactly, Protocol, Any}
+use Rattle.calls.specs.declared.Shape.the-variants.{Nothing, Interface, Numbered, Exactly, Led, Any}
+use Rattle.calls.specs.declared.Fault.{Fault}
 use Rattle.calls.specs.declared.Asked.{Asked}
 use Rattle.calls.specs.declared.Asked.the-variants.{Understood, Wrong}
 use Rattle.calls.specs.Calls.{rows, callOf, shapeOf, position}
-use Rattle.reading.specs.Asking.{ended, interfaced, bytesAsked, any, counted, protocolled, judged, untouched, numbered, readShape, asked}
+use Rattle.reading.specs.Asking.{ended, interfaced, bytesAsked, any, counted, led, judged, untouched, numbered, readShape, asked}
 use Rattle.reading.specs.Claims.{countIn, Fresh}
 
 -- two readings with the same answer and the same bytes
@@ -42,10 +43,10 @@ counts from wanted (Understood call number count) =
     ways (λ (r : Asked). (countIn r ≡ count) ⊎ (countIn r ≡ 0)) (eqb count wanted) (λ t. inl refl) (λ t. inr refl)
 counts from wanted (Wrong place fault) = inr refl
 
-protocols : (from : ℕ) → Judges (protocolled from)
-protocols from (Understood call number count) =
+leads : (from : ℕ) (missing : Fault) → Judges (led from missing)
+leads from missing (Understood call number count) =
     ways (λ (r : Asked). (countIn r ≡ count) ⊎ (countIn r ≡ 0)) (eqb count 0) (λ t. inr refl) (λ t. inl refl)
-protocols from (Wrong place fault) = inr refl
+leads from missing (Wrong place fault) = inr refl
 
 none-ended : (call : Verb) (number : ℕ) (line : List ℕ) (from : ℕ) → countIn (ended call number line from) ≡ 0
 none-ended call number line from = ways (λ (r : Asked). countIn r ≡ 0) (ltb (skipped line from) (length line)) (λ t. refl) (λ t. refl)
@@ -97,7 +98,7 @@ module _ (line b c : List ℕ) (l : length b ≡ length c) where
   shape call from (Numbered greatest wanted) = number call greatest wanted from (readNumber line from)
   shape call from (Exactly wanted) =
       judging (counted from wanted) (counts from wanted) (any call 0 line from b) (any call 0 line from c) (read call 0 from)
-  shape call from Protocol = judging (protocolled from) (protocols from) (any call 0 line from b) (any call 0 line from c) (read call 0 from)
+  shape call from (Led missing) = judging (led from missing) (leads from missing) (any call 0 line from b) (any call 0 line from c) (read call 0 from)
   shape call from Any = read call 0 from
 
 pub fresh : Fresh

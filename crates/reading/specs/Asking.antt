@@ -18,8 +18,9 @@ use Rattle.digits.specs.Hex.{readBytes}
 use Rattle.digits.specs.Decimal.{readNumber}
 use Rattle.calls.specs.declared.Verb.{Verb}
 use Rattle.calls.specs.declared.Shape.{Shape}
-use Rattle.calls.specs.declared.Shape.the-variants.{Nothing, Interface, Numbered, Exactly, Protocol, Any}
-use Rattle.calls.specs.declared.Fault.the-variants.{Unknown, Longer, NoPair, NoNumber, NoInterface, Count, NoProtocol, Above}
+use Rattle.calls.specs.declared.Shape.the-variants.{Nothing, Interface, Numbered, Exactly, Led, Any}
+use Rattle.calls.specs.declared.Fault.{Fault}
+use Rattle.calls.specs.declared.Fault.the-variants.{Unknown, Longer, NoPair, NoNumber, NoInterface, Count, Above}
 use Rattle.calls.specs.declared.Asked.{Asked}
 use Rattle.calls.specs.declared.Asked.the-variants.{Understood, Wrong}
 use Rattle.calls.specs.Calls.{rows, callOf, shapeOf, position}
@@ -56,10 +57,10 @@ abbrev pub counted : ℕ → ℕ → Asked → Asked
 counted from wanted (Understood call number count) = pick (eqb count wanted) (Understood call number count) (Wrong from (Count count wanted))
 counted from wanted (Wrong place fault) = Wrong place fault
 
--- one byte or more from a place on: the protocol, then its parameters
-abbrev pub protocolled : ℕ → Asked → Asked
-protocolled from (Understood call number count) = pick (eqb count 0) (Wrong from NoProtocol) (Understood call number count)
-protocolled from (Wrong place fault) = Wrong place fault
+-- one byte or more from a place on, which leads the others; where there is none, what is missing
+abbrev pub led : ℕ → Fault → Asked → Asked
+led from missing (Understood call number count) = pick (eqb count 0) (Wrong from missing) (Understood call number count)
+led from missing (Wrong place fault) = Wrong place fault
 
 -- an answer judged further, with the buffer as it is
 abbrev pub judged : (Asked → Asked) → Ran Asked → Ran Asked
@@ -85,7 +86,7 @@ readShape call Nothing line from buffer = untouched buffer (ended call 0 line fr
 readShape call Interface line from buffer = untouched buffer (interfaced call line from)
 readShape call (Numbered greatest wanted) line from buffer = numbered call greatest wanted line from buffer (readNumber line from)
 readShape call (Exactly wanted) line from buffer = judged (counted from wanted) (any call 0 line from buffer)
-readShape call Protocol line from buffer = judged (protocolled from) (any call 0 line from buffer)
+readShape call (Led missing) line from buffer = judged (led from missing) (any call 0 line from buffer)
 readShape call Any line from buffer = any call 0 line from buffer
 
 -- the call of a line, its bytes read to the front of a buffer

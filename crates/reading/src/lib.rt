@@ -3,12 +3,14 @@ ghost use mathlib.Core.Path.{_≡_};
 ghost use Rattle.words.specs.Contract.{Is};
 ghost use Rattle.digits.specs.Decimal.{readNumber};
 ghost use Rattle.calls.specs.Calls.{callOf, shapeOf};
-ghost use Rattle.reading.specs.Asking.{asked, counted, interfaced, protocolled, readShape};
+ghost use Rattle.reading.specs.Asking.{asked, counted, interfaced, readShape};
 ghost use Rattle.reading.specs.Asking.{any as Asking·any};
 ghost use Rattle.reading.specs.Asking.{ended as Asking·ended};
+ghost use Rattle.reading.specs.Asking.{led as Asking·led};
 ghost use Rattle.reading.specs.Asking.{numbered as Asking·numbered};
 use calls::Act;
 use calls::Asked;
+use calls::Board;
 use calls::Buffer;
 use calls::Fault;
 use calls::Question;
@@ -17,6 +19,7 @@ use calls::Verb;
 use digits::Bytes;
 use digits::Number;
 use model::Kind;
+use model::Message;
 
 // The most that out and room can be.
 pub const LONGEST: usize = 600;
@@ -48,8 +51,18 @@ fn call_of(k: u8) -> Verb
         16 => Verb::Tells(Question::Command),
         17 => Verb::Tells(Question::Flags),
         18 => Verb::Tells(Question::Received),
-        19 => Verb::Sets(Buffer::Out),
-        20 => Verb::Sets(Buffer::Room),
+        19 => Verb::Speaks(Board::Asks(Message::Idn)),
+        20 => Verb::Speaks(Board::Asks(Message::GetFirmwareVersion)),
+        21 => Verb::Speaks(Board::Asks(Message::Inventory)),
+        22 => Verb::Speaks(Board::Asks(Message::GoToTagDetectingState)),
+        23 => Verb::Speaks(Board::Asks(Message::IsWakeUp)),
+        24 => Verb::Speaks(Board::Asks(Message::CalibrateTagDetecting)),
+        25 => Verb::Speaks(Board::Reads),
+        26 => Verb::Speaks(Board::Answers),
+        27 => Verb::Speaks(Board::Fails),
+        28 => Verb::Speaks(Board::Replies),
+        29 => Verb::Sets(Buffer::Out),
+        30 => Verb::Sets(Buffer::Room),
         _ => Verb::Helps,
     }
 }
@@ -62,7 +75,9 @@ fn shape_of(k: u8) -> Shape
         0 => Shape::Interface,
         1 => Shape::Nothing,
         2 => Shape::Nothing,
-        3 => Shape::Protocol,
+        3 => Shape::Led {
+            missing: Fault::NoProtocol,
+        },
         4 => Shape::Any,
         5 => Shape::Exactly { wanted: 14 },
         6 => Shape::Nothing,
@@ -84,11 +99,25 @@ fn shape_of(k: u8) -> Shape
         16 => Shape::Any,
         17 => Shape::Exactly { wanted: 1 },
         18 => Shape::Any,
-        19 => Shape::Numbered {
+        19 => Shape::Nothing,
+        20 => Shape::Nothing,
+        21 => Shape::Exactly { wanted: 1 },
+        22 => Shape::Exactly { wanted: 2 },
+        23 => Shape::Nothing,
+        24 => Shape::Nothing,
+        25 => Shape::Any,
+        26 => Shape::Led {
+            missing: Fault::NoCode,
+        },
+        27 => Shape::Exactly { wanted: 1 },
+        28 => Shape::Led {
+            missing: Fault::NoCode,
+        },
+        29 => Shape::Numbered {
             greatest: LONGEST,
             wanted: 0,
         },
-        20 => Shape::Numbered {
+        30 => Shape::Numbered {
             greatest: LONGEST,
             wanted: 0,
         },
@@ -176,9 +205,9 @@ fn exactly(asked: Asked, from: usize, wanted: usize) -> Asked
     }
 }
 
-// The call, if it has a protocol at a place.
-fn with_protocol(asked: Asked, from: usize) -> Asked
-    ensures { λ r. ⌜ r ≡ protocolled from asked ⌝ }
+// The call, if it has a byte at a place, and otherwise what is missing there.
+fn led(asked: Asked, from: usize, missing: Fault) -> Asked
+    ensures { λ r. ⌜ r ≡ Asking·led from missing asked ⌝ }
 {
     match asked {
         Asked::Understood {
@@ -188,7 +217,7 @@ fn with_protocol(asked: Asked, from: usize) -> Asked
         } => if count == 0 {
             Asked::Wrong {
                 place: from,
-                fault: Fault::NoProtocol,
+                fault: missing,
             }
         } else {
             Asked::Understood {
@@ -244,7 +273,7 @@ fn take(call: Verb, shape: Shape, line: &[u8], from: usize, bytes: &mut [u8]) ->
         Shape::Interface => interface(call, line, from),
         Shape::Numbered { greatest, wanted } => numbered(call, line, from, greatest, wanted, bytes),
         Shape::Exactly { wanted } => exactly(any(call, 0, line, from, bytes), from, wanted),
-        Shape::Protocol => with_protocol(any(call, 0, line, from, bytes), from),
+        Shape::Led { missing } => led(any(call, 0, line, from, bytes), from, missing),
         Shape::Any => any(call, 0, line, from, bytes),
     }
 }

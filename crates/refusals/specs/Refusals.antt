@@ -4,7 +4,7 @@ use Prim.Native.Nat.{ℕ}
 use mathlib.Core.List.{List, [], _∷_, _++_}
 use Rattle.model.specs.declared.Refusal.{Refusal}
 use Rattle.model.specs.declared.Refusal.the-variants.{Short, Invalid, Unready, Busy, Malformed, Unawaited, ChipError, LowestTimeout, HighestTag, NoLevel, CalibrationError}
-use Rattle.model.specs.Refusals.{numberOf}
+use Rattle.model.specs.Refusals.{Number, none, number as numbered, numberOf}
 use Rattle.text.specs.Writing.{word, hex, number}
 
 -- how many commands a calibration took
@@ -31,3 +31,8 @@ refusedText n = word "refused" ∷ number n
 
 abbrev pub refusalText : Refusal → List (List ℕ)
 refusalText refusal = refusedText (numberOf refusal) ++ valuesText refusal
+
+-- one that no session gives, by the number that the model gives it
+abbrev pub numberText : Number → List (List ℕ)
+numberText none = []
+numberText (numbered n) = refusedText n

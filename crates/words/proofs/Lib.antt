@@ -1,2 +1,4 @@
 pub mod Words
 pub mod Contract
+pub mod Searching
+pub mod Fronts

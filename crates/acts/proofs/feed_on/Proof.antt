@@ -6,7 +6,7 @@ use denote.Ref.{now}
 use mathlib.Core.List.{List}
 use Prim.Native.Nat.{ℕ}
 use Rattle.model.specs.Session.{feed, step}
-use Rattle.acts.proofs.Making.{on-front, on-all}
+use Rattle.words.proofs.Fronts.{on-front, on-all}
 use Rattle.acts.proofs.feed_on.Statement.{statement}
 use Rattle.acts.proofs.feed_on.Tie as tie
 

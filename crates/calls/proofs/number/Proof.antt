@@ -3,11 +3,15 @@
 use borrow.Author.Needs.{needs}
 use mathlib.Core.Path.{_≡_, refl, sym, _∙_}
 use denote.Ref.{now}
+use lib.ListN.{length}
 use borrow.Author.Tests.{ne-eqb}
 use Rattle.calls.specs.Calls.{rows}
-use Rattle.calls.proofs.Names.{sought, by-first}
+use Rattle.calls.proofs.Names.{sought, has, by-first}
 use Rattle.calls.proofs.number.Statement.{statement}
 use Rattle.calls.proofs.number.Tie as tie
+
+message-number-requires : tie.Need-message-number-requires
+message-number-requires c κs = sym (sym (c .match .keys13) ∙ c .before .at .ensures)
 
 returns : tie.Need-returns
 returns c =
@@ -82,32 +86,36 @@ returns-12 c =
     rw (c .either21 .ensures) (by-first (now (at .before .before .args .word)) 116 (sym (found .match .keys12) ∙ at .at .ensures))
 
 returns-13 : tie.Need-returns-13
-returns-13 c =
-    let found = c .before .before in
-    let at = found .before in
-    rw (c .either22 .ensures) (by-first (now (at .before .before .args .word)) 119 (sym (found .match .keys13) ∙ at .at .ensures))
+returns-13 c = c .message-number .ensures
 
 returns-14 : tie.Need-returns-14
 returns-14 c =
+    let found = c .before .before in
+    let at = found .before in
+    rw (c .either22 .ensures) (by-first (now (at .before .before .args .word)) 119 (sym (found .match .keys14) ∙ at .at .ensures))
+
+returns-15 : tie.Need-returns-15
+returns-15 c =
     let at = c .before in
     let first = at .at .result in
     let rest = c .match .rest in
-    let none : sought (now (at .before .before .args .word)) first 0 rows ≡ 22 =
+    let none : sought (has 0 first) (now (at .before .before .args .word)) 0 rows ≡ length rows =
     simp (
       ne-eqb 119 first (λ (e : 119 ≡ first). rest .1 (sym e)),
-      ne-eqb 116 first (λ (e : 116 ≡ first). rest .0 .1 (sym e)),
-      ne-eqb 115 first (λ (e : 115 ≡ first). rest .0 .0 .1 (sym e)),
-      ne-eqb 114 first (λ (e : 114 ≡ first). rest .0 .0 .0 .1 (sym e)),
-      ne-eqb 112 first (λ (e : 112 ≡ first). rest .0 .0 .0 .0 .1 (sym e)),
-      ne-eqb 111 first (λ (e : 111 ≡ first). rest .0 .0 .0 .0 .0 .1 (sym e)),
-      ne-eqb 110 first (λ (e : 110 ≡ first). rest .0 .0 .0 .0 .0 .0 .1 (sym e)),
-      ne-eqb 105 first (λ (e : 105 ≡ first). rest .0 .0 .0 .0 .0 .0 .0 .1 (sym e)),
-      ne-eqb 104 first (λ (e : 104 ≡ first). rest .0 .0 .0 .0 .0 .0 .0 .0 .1 (sym e)),
-      ne-eqb 102 first (λ (e : 102 ≡ first). rest .0 .0 .0 .0 .0 .0 .0 .0 .0 .1 (sym e)),
-      ne-eqb 101 first (λ (e : 101 ≡ first). rest .0 .0 .0 .0 .0 .0 .0 .0 .0 .0 .1 (sym e)),
-      ne-eqb 99 first (λ (e : 99 ≡ first). rest .0 .0 .0 .0 .0 .0 .0 .0 .0 .0 .0 .1 (sym e)),
-      ne-eqb 98 first (λ (e : 98 ≡ first). rest .0 .0 .0 .0 .0 .0 .0 .0 .0 .0 .0 .0 .1 (sym e)),
-    ) refl in
+      ne-eqb 117 first (λ (e : 117 ≡ first). rest .0 .1 (sym e)),
+      ne-eqb 116 first (λ (e : 116 ≡ first). rest .0 .0 .1 (sym e)),
+      ne-eqb 115 first (λ (e : 115 ≡ first). rest .0 .0 .0 .1 (sym e)),
+      ne-eqb 114 first (λ (e : 114 ≡ first). rest .0 .0 .0 .0 .1 (sym e)),
+      ne-eqb 112 first (λ (e : 112 ≡ first). rest .0 .0 .0 .0 .0 .1 (sym e)),
+      ne-eqb 111 first (λ (e : 111 ≡ first). rest .0 .0 .0 .0 .0 .0 .1 (sym e)),
+      ne-eqb 110 first (λ (e : 110 ≡ first). rest .0 .0 .0 .0 .0 .0 .0 .1 (sym e)),
+      ne-eqb 105 first (λ (e : 105 ≡ first). rest .0 .0 .0 .0 .0 .0 .0 .0 .1 (sym e)),
+      ne-eqb 104 first (λ (e : 104 ≡ first). rest .0 .0 .0 .0 .0 .0 .0 .0 .0 .1 (sym e)),
+      ne-eqb 102 first (λ (e : 102 ≡ first). rest .0 .0 .0 .0 .0 .0 .0 .0 .0 .0 .1 (sym e)),
+      ne-eqb 101 first (λ (e : 101 ≡ first). rest .0 .0 .0 .0 .0 .0 .0 .0 .0 .0 .0 .1 (sym e)),
+      ne-eqb 99 first (λ (e : 99 ≡ first). rest .0 .0 .0 .0 .0 .0 .0 .0 .0 .0 .0 .0 .1 (sym e)),
+      ne-eqb 98 first (λ (e : 98 ≡ first). rest .0 .0 .0 .0 .0 .0 .0 .0 .0 .0 .0 .0 .0 .1 (sym e)),
+    ) (refl {a = length rows}) in
     sym none ∙ by-first (now (at .before .before .args .word)) first (at .at .ensures)
 
 pub number-spec : {M : Type 1} → statement M
@@ -157,6 +165,7 @@ number-spec =
     (λ c κs. search needs)
     (λ c. search needs)
     (λ c κs. search needs)
+    message-number-requires
     (λ c. search needs)
     (λ c κs. search needs)
     returns
@@ -172,4 +181,5 @@ number-spec =
     returns-11
     returns-12
     returns-13
-    returns-14)
+    returns-14
+    returns-15)

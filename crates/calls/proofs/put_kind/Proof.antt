@@ -1,34 +1,25 @@
 -- `calls::put_kind` meets its contract: each command has its name.
 -- Assumes nothing.
 use borrow.Author.Needs.{needs}
-use Prim.Native.Nat.{ℕ}
-use mathlib.Core.Path.{_≡_, subst⁻¹}
-use mathlib.Core.List.{List, [], _∷_}
-use Rattle.model.specs.declared.Kind.{Kind}
-use Rattle.text.specs.Writing.{Puts}
 use Rattle.calls.specs.Calls.{kindName}
+use Rattle.calls.proofs.Telling.{told}
 use Rattle.calls.proofs.put_kind.Statement.{statement}
 use Rattle.calls.proofs.put_kind.Tie as tie
 
--- a name, by the command that is known
-told : (r : ℕ) (exit : List ℕ) {text : List ℕ} {at : ℕ} {kind known : Kind} → kind ≡ known → Puts text at (kindName known ∷ []) r exit
-    → Puts text at (kindName kind ∷ []) r exit
-told r exit {text} {at} e is = subst⁻¹ (λ (kind : Kind). Puts text at (kindName kind ∷ []) r exit) e is
-
 returns : tie.Need-returns
-returns c = let put = c .before .before in told (put .put .result) (put .put .last .0) (put .before .before .before .enum-told .given .1) (put .put .ensures)
+returns c = let put = c .before .before in told kindName (put .put .result) (put .put .last .0) (put .before .before .before .enum-told .given .1) (put .put .ensures)
 
 returns-2 : tie.Need-returns-2
-returns-2 c = let put = c .before .before in told (put .put2 .result) (put .put2 .last .0) (put .before .before .before .enum-told2 .given .1) (put .put2 .ensures)
+returns-2 c = let put = c .before .before in told kindName (put .put2 .result) (put .put2 .last .0) (put .before .before .before .enum-told2 .given .1) (put .put2 .ensures)
 
 returns-3 : tie.Need-returns-3
-returns-3 c = let put = c .before .before in told (put .put3 .result) (put .put3 .last .0) (put .before .before .before .enum-told3 .given .1) (put .put3 .ensures)
+returns-3 c = let put = c .before .before in told kindName (put .put3 .result) (put .put3 .last .0) (put .before .before .before .enum-told3 .given .1) (put .put3 .ensures)
 
 returns-4 : tie.Need-returns-4
-returns-4 c = let put = c .before .before in told (put .put4 .result) (put .put4 .last .0) (put .before .before .before .enum-told4 .given .1) (put .put4 .ensures)
+returns-4 c = let put = c .before .before in told kindName (put .put4 .result) (put .put4 .last .0) (put .before .before .before .enum-told4 .given .1) (put .put4 .ensures)
 
 returns-5 : tie.Need-returns-5
-returns-5 c = let put = c .before .before in told (put .put5 .result) (put .put5 .last .0) (put .before .before .before .enum-told5 .given .1) (put .put5 .ensures)
+returns-5 c = let put = c .before .before in told kindName (put .put5 .result) (put .put5 .last .0) (put .before .before .before .enum-told5 .given .1) (put .put5 .ensures)
 
 pub put-kind-spec : {M : Type 1} → statement M
 put-kind-spec =

@@ -34,14 +34,22 @@ returns-3 c =
 
 returns-4 : tie.Need-returns-4
 returns-4 c =
-    let called = c .before .before in
-    let told = called .before .before .before in
+    let called = c .before .before .before .before in
+    let told = called .before .before .before .before in
     let a = told .before .before .before .before .before .before .args in
     by-call (a .post) (now (a .out)) (now (a .room)) (now (a .text)) (a .number) (now (a .given)) (told .call3 .given .1)
-    (record { done = called .set .ensures; out = refl; room = refl })
+    (record { done = telling refl (called .answer2 .ensures .0); out = called .answer2 .ensures .1; room = refl })
 
 returns-5 : tie.Need-returns-5
 returns-5 c =
+    let called = c .before .before in
+    let told = called .before .before .before in
+    let a = told .before .before .before .before .before .before .args in
+    by-call (a .post) (now (a .out)) (now (a .room)) (now (a .text)) (a .number) (now (a .given)) (told .call4 .given .1)
+    (record { done = called .set .ensures; out = refl; room = refl })
+
+returns-6 : tie.Need-returns-6
+returns-6 c =
     let called = c .before .before in
     let told = called .before .before in
     let a = told .before .before .before .before .before .before .args in
@@ -63,6 +71,8 @@ obey-spec =
     (λ c. search needs)
     (λ c κs. search needs)
     (λ c. search needs)
+    (λ c κs. search needs)
+    (λ c. search needs)
     (λ c. search needs)
     returns
     (λ c. search needs)
@@ -71,6 +81,9 @@ obey-spec =
     (λ c. search needs)
     returns-3
     (λ c. search needs)
+    (λ c. search needs)
     returns-4
     (λ c. search needs)
-    returns-5)
+    returns-5
+    (λ c. search needs)
+    returns-6)

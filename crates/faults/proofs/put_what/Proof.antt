@@ -56,6 +56,12 @@ returns-8 c =
 returns-9 : tie.Need-returns-9
 returns-9 c =
     let put = c .before .before in
+    let known = put .before .before .before in
+    told (known .before .before .before .args .at) (put .put8 .result) (put .put8 .last .0) (known .enum-told8 .given .1) (put .put8 .ensures)
+
+returns-10 : tie.Need-returns-10
+returns-10 c =
+    let put = c .before .before in
     let known = put .before .before .before .before .before in
     told (known .before .before .before .args .at) (put .put-given2 .result) (put .put-given2 .last .0) (known .fault2 .given .1) (put .put-given2 .ensures)
 
@@ -90,6 +96,9 @@ put-what-spec =
     (λ c κs. search needs)
     (λ c. search needs)
     (λ c. search needs)
+    (λ c κs. search needs)
+    (λ c. search needs)
+    (λ c. search needs)
     (λ c. search needs)
     (λ c κs. search needs)
     (λ c. search needs)
@@ -109,4 +118,6 @@ put-what-spec =
     (λ c. search needs)
     returns-8
     (λ c. search needs)
-    returns-9)
+    returns-9
+    (λ c. search needs)
+    returns-10)

@@ -1,8 +1,10 @@
 -- `kinds::kind_of` meets its contract: an arm a code, and no other.
 -- Assumes nothing.
 use mathlib.Core.Path.{refl}
-use Rattle.model.specs.Frames.{kinds}
-use Rattle.kinds.proofs.Codes.{none}
+use Rattle.model.specs.declared.Kind.{Kind}
+use Rattle.model.specs.declared.Coded.the-variants.{Known, Unknown}
+use Rattle.model.specs.Frames.{row, kinds}
+use Rattle.words.proofs.Searching.{none}
 use Rattle.kinds.proofs.kind_of.Statement.{statement}
 use Rattle.kinds.proofs.kind_of.Tie as tie
 
@@ -15,4 +17,4 @@ kind-of-spec =
     (λ c. simp (c .match .keys3) refl)
     (λ c. simp (c .match .keys4) refl)
     (λ c. simp (c .match .keys5) refl)
-    (λ c. none (c .before .args .code) (Unit {0}) kinds (c .match .rest)))
+    (λ c. none (λ (k : Kind). row k .code) Known Unknown (c .before .args .code) (Unit {0}) kinds (c .match .rest)))

@@ -2,12 +2,12 @@
 -- Assumes nothing.
 use mathlib.Core.Path.{sym, ap}
 use Rattle.calls.specs.Calls.{callOf}
-use Rattle.calls.proofs.Names.{past, helps}
+use Rattle.calls.proofs.Names.{last, past, helps}
 use Rattle.reading.proofs.call_of.Statement.{statement}
 use Rattle.reading.proofs.call_of.Tie as tie
 
-returns-22 : tie.Need-returns-22
-returns-22 c = let k = c .before .args .k in helps k (past 21 k (c .match .rest))
+returns-32 : tie.Need-returns-32
+returns-32 c = let k = c .before .args .k in helps k (past last k (c .match .rest))
 
 pub call-of-spec : {M : Type 1} → statement M
 call-of-spec =
@@ -34,4 +34,14 @@ call-of-spec =
     (λ c. sym (ap callOf (c .match .keys19)))
     (λ c. sym (ap callOf (c .match .keys20)))
     (λ c. sym (ap callOf (c .match .keys21)))
-    returns-22)
+    (λ c. sym (ap callOf (c .match .keys22)))
+    (λ c. sym (ap callOf (c .match .keys23)))
+    (λ c. sym (ap callOf (c .match .keys24)))
+    (λ c. sym (ap callOf (c .match .keys25)))
+    (λ c. sym (ap callOf (c .match .keys26)))
+    (λ c. sym (ap callOf (c .match .keys27)))
+    (λ c. sym (ap callOf (c .match .keys28)))
+    (λ c. sym (ap callOf (c .match .keys29)))
+    (λ c. sym (ap callOf (c .match .keys30)))
+    (λ c. sym (ap callOf (c .match .keys31)))
+    returns-32)

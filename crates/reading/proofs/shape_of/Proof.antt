@@ -2,12 +2,12 @@
 -- Assumes nothing.
 use mathlib.Core.Path.{sym, ap}
 use Rattle.calls.specs.Calls.{shapeOf}
-use Rattle.calls.proofs.Names.{past, takes-nothing}
+use Rattle.calls.proofs.Names.{last, past, takes-nothing}
 use Rattle.reading.proofs.shape_of.Statement.{statement}
 use Rattle.reading.proofs.shape_of.Tie as tie
 
-returns-22 : tie.Need-returns-22
-returns-22 c = let k = c .before .args .k in takes-nothing k (past 21 k (c .match .rest))
+returns-32 : tie.Need-returns-32
+returns-32 c = let k = c .before .args .k in takes-nothing k (past last k (c .match .rest))
 
 pub shape-of-spec : {M : Type 1} → statement M
 shape-of-spec =
@@ -34,4 +34,14 @@ shape-of-spec =
     (λ c. sym (ap shapeOf (c .match .keys19)))
     (λ c. sym (ap shapeOf (c .match .keys20)))
     (λ c. sym (ap shapeOf (c .match .keys21)))
-    returns-22)
+    (λ c. sym (ap shapeOf (c .match .keys22)))
+    (λ c. sym (ap shapeOf (c .match .keys23)))
+    (λ c. sym (ap shapeOf (c .match .keys24)))
+    (λ c. sym (ap shapeOf (c .match .keys25)))
+    (λ c. sym (ap shapeOf (c .match .keys26)))
+    (λ c. sym (ap shapeOf (c .match .keys27)))
+    (λ c. sym (ap shapeOf (c .match .keys28)))
+    (λ c. sym (ap shapeOf (c .match .keys29)))
+    (λ c. sym (ap shapeOf (c .match .keys30)))
+    (λ c. sym (ap shapeOf (c .match .keys31)))
+    returns-32)

@@ -3,7 +3,7 @@
 use borrow.Author.Needs.{needs}
 use mathlib.Core.Path.{refl}
 use denote.Ref.{now}
-use Rattle.reading.specs.Asking.{any, counted, protocolled}
+use Rattle.reading.specs.Asking.{any, counted, led}
 use Rattle.reading.proofs.Asking.{by-shape, judging}
 use Rattle.reading.proofs.take.Statement.{statement}
 use Rattle.reading.proofs.take.Tie as tie
@@ -38,17 +38,17 @@ returns-4 c =
 returns-5 : tie.Need-returns-5
 returns-5 c =
     let read = c .before .before .before in
-    let told = read .before .before in
+    let told = read .before .before .before in
     let a = told .before .before .before .before .args in
-    by-shape (a .call) (now (a .line)) (a .from) (now (a .bytes)) (told .enum-told3 .given .1)
-    (judging (protocolled (a .from)) (any (a .call) 0 (now (a .line)) (a .from) (now (a .bytes))) (read .any2 .ensures) (c .with-protocol .ensures))
+    by-shape (a .call) (now (a .line)) (a .from) (now (a .bytes)) (told .shape3 .given .1)
+    (judging (led (a .from) (told .shape3 .given .0 .0)) (any (a .call) 0 (now (a .line)) (a .from) (now (a .bytes))) (read .any2 .ensures) (c .led .ensures))
 
 returns-6 : tie.Need-returns-6
 returns-6 c =
     let read = c .before .before in
     let told = read .before .before in
     let a = told .before .before .before .before .args in
-    by-shape (a .call) (now (a .line)) (a .from) (now (a .bytes)) (told .enum-told4 .given .1) (read .any3 .ensures)
+    by-shape (a .call) (now (a .line)) (a .from) (now (a .bytes)) (told .enum-told3 .given .1) (read .any3 .ensures)
 
 pub take-spec : {M : Type 1} → statement M
 take-spec =

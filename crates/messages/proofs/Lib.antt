@@ -1,0 +1,4 @@
+pub mod Codes
+pub mod Plain
+pub mod Written
+pub mod Parts
