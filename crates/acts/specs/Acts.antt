@@ -13,6 +13,7 @@ use Rattle.words.specs.Contract.{Ran}
 use Rattle.model.specs.Frames.{command}
 use Rattle.model.specs.Session.{power-on, pulse, request, reset, poll, read, calibrate, next, step}
 use Rattle.lines.specs.Lines.{byteAt}
+use Rattle.calls.specs.Calls.{dataFor}
 use Rattle.calls.specs.declared.Act.{Act}
 use Rattle.calls.specs.declared.Act.the-variants.{PowerOn, Pulse, Sends, Reset, Poll, Read, Calibrate, Next}
 
@@ -42,7 +43,7 @@ keeping out ran = record { answer = ran .answer; bytes = out }
 abbrev pub acted : Session → Act → ℕ → List ℕ → List ℕ → Ran Outcome
 acted s PowerOn number given out = keeping out (step s (power-on (interfaceOf number)))
 acted s Pulse number given out = keeping out (step s pulse)
-acted s (Sends kind) number given out = step s (request (command kind given) out)
+acted s (Sends kind) number given out = step s (request (command kind (dataFor kind given)) out)
 acted s Reset number given out = step s (reset out)
 acted s Poll number given out = step s (poll out)
 acted s Read number given out = step s (read number out)

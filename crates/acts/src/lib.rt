@@ -1,10 +1,13 @@
 // The call of the session that a line makes, on as much of a buffer as is lent.
 ghost use mathlib.Core.Path.{_≡_};
 ghost use Rattle.words.specs.Contract.{Is, onFront};
-ghost use Rattle.model.specs.Session.{feed, step};
+ghost use Rattle.model.specs.Frames.{command};
+ghost use Rattle.model.specs.Session.{request, feed, step, Meets};
+ghost use Rattle.calls.specs.Calls.{dataFor};
 ghost use Rattle.acts.specs.Acts.{interfaceOf, planOf, acted};
 use calls::Act;
 use model::Interface;
+use model::Kind;
 use model::Outcome;
 use model::Pair;
 use model::Plan;
@@ -48,13 +51,23 @@ fn interface(number: usize) -> Interface
     Interface::Uart
 }
 
+// A command, with the data that stand for what the call is given.
+fn send(s: Session, kind: Kind, given: &[u8], out: &mut [u8]) -> Outcome
+    ensures { λ r. ⌜ Meets s (request (command kind (dataFor kind (now (given .entry)))) (now (out .entry))) r (now (out .exit)) ⌝ }
+{
+    if kinds::are_same(kind, Kind::RdReg) {
+        return requests::read_register(s, lines::at(given, 0), out);
+    }
+    requests::request(s, kind, given, out)
+}
+
 fn act(what: Act, s: Session, number: usize, given: &[u8], out: &mut [u8]) -> Outcome
     ensures { λ r. ⌜ Is (acted s what number (now (given .entry)) (now (out .entry))) r (now (out .exit)) ⌝ }
 {
     match what {
         Act::PowerOn => session::power_on(s, interface(number)),
         Act::Pulse => session::pulse(s),
-        Act::Sends(kind) => requests::request(s, kind, given, out),
+        Act::Sends(kind) => send(s, kind, given, out),
         Act::Reset => requests::reset(s, out),
         Act::Poll => requests::poll(s, out),
         Act::Read => requests::read(s, number, out),

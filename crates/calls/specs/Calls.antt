@@ -5,11 +5,13 @@ use Prim.Native.String.{String}
 use mathlib.Core.List.{List, [], _∷_}
 use lib.ListN.{getD}
 use Rattle.model.specs.declared.Kind.{Kind}
-use Rattle.model.specs.declared.Kind.the-variants.{Idn, ProtocolSelect, SendRecv, Idle, Echo}
+use Rattle.model.specs.declared.Kind.the-variants.{Idn, ProtocolSelect, SendRecv, Idle, RdReg, WrReg, Echo}
 use Rattle.model.specs.declared.Message.{Message}
 use Rattle.model.specs.declared.Message.the-variants.{GetFirmwareVersion, Inventory, GoToTagDetectingState, IsWakeUp, CalibrateTagDetecting}
 use Rattle.words.specs.Words.{pick}
-use Rattle.lines.specs.Lines.{same}
+use Rattle.model.specs.Registers.{readData}
+use Rattle.model.specs.Frames.{is}
+use Rattle.lines.specs.Lines.{same, byteAt, fore}
 use Rattle.text.specs.Writing.{word}
 use Rattle.calls.specs.declared.Act.the-variants.{PowerOn, Pulse, Sends, Reset, Poll, Read, Calibrate, Next}
 use Rattle.calls.specs.declared.Question.the-variants.{Times, Wait, Band, Command, Flags, Received}
@@ -73,6 +75,8 @@ rows =
     ∷ row "usb-answer" (Speaks Answers) (Led NoCode)
     ∷ row "usb-error" (Speaks Fails) (Exactly 1)
     ∷ row "usb-reply" (Speaks Replies) (Led NoCode)
+    ∷ row "rdreg" (Acts (Sends RdReg)) (Exactly 1)
+    ∷ row "wrreg" (Acts (Sends WrReg)) Any
     ∷ row "out" (Sets Out) (Numbered longest 0)
     ∷ row "room" (Sets Room) (Numbered longest 0)
     ∷ row "help" Helps Nothing
@@ -97,10 +101,20 @@ sentBy Idn = 2
 sentBy ProtocolSelect = 3
 sentBy SendRecv = 4
 sentBy Idle = 5
+sentBy RdReg = 29
+sentBy WrReg = 30
 sentBy Echo = 6
 
 abbrev pub kindName : Kind → List ℕ
 kindName kind = nameOf (sentBy kind)
+
+-- the data of the command that a call sends, by the bytes that it is given: rdreg is given the register alone
+abbrev pub dataFor : Kind → List ℕ → List ℕ
+dataFor kind given = pick (is kind RdReg) (readData (byteAt given 0)) given
+
+-- and the bytes that it is given, by those data
+abbrev pub givenFor : Kind → List ℕ → List ℕ
+givenFor kind payload = pick (is kind RdReg) (fore payload 1) payload
 
 -- the number of the call that writes a command message, and its name
 abbrev pub askedBy : Message → ℕ

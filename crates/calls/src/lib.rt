@@ -111,7 +111,7 @@ pub enum Shape {
 }
 
 // How many names there are.
-pub const CALLS: u8 = 32;
+pub const CALLS: u8 = 34;
 
 // Puts the name of the call that sends a command.
 pub fn put_kind(text: &mut [u8], at: usize, kind: Kind) -> usize
@@ -122,6 +122,8 @@ pub fn put_kind(text: &mut [u8], at: usize, kind: Kind) -> usize
         Kind::ProtocolSelect => text::put(text, at, b"select"),
         Kind::SendRecv => text::put(text, at, b"send"),
         Kind::Idle => text::put(text, at, b"idle"),
+        Kind::RdReg => text::put(text, at, b"rdreg"),
+        Kind::WrReg => text::put(text, at, b"wrreg"),
         Kind::Echo => text::put(text, at, b"echo"),
     }
 }
@@ -189,10 +191,10 @@ fn number(word: &[u8]) -> u8
         b'c' => either(word, b"calibrate", 10, either(word, b"command", 16, CALLS)),
         b'e' => either(word, b"echo", 6, CALLS),
         b'f' => either(word, b"feed", 12, either(word, b"flags", 17, CALLS)),
-        b'h' => either(word, b"help", 31, CALLS),
+        b'h' => either(word, b"help", 33, CALLS),
         b'i' => either(word, b"idn", 2, either(word, b"idle", 5, CALLS)),
         b'n' => either(word, b"next", 11, CALLS),
-        b'o' => either(word, b"out", 29, CALLS),
+        b'o' => either(word, b"out", 31, CALLS),
         b'p' => either(
             word,
             b"power-on",
@@ -207,13 +209,18 @@ fn number(word: &[u8]) -> u8
                 word,
                 b"read",
                 9,
-                either(word, b"received", 18, either(word, b"room", 30, CALLS)),
+                either(
+                    word,
+                    b"received",
+                    18,
+                    either(word, b"rdreg", 29, either(word, b"room", 32, CALLS)),
+                ),
             ),
         ),
         b's' => either(word, b"select", 3, either(word, b"send", 4, CALLS)),
         b't' => either(word, b"times", 13, CALLS),
         b'u' => message_number(word),
-        b'w' => either(word, b"wait", 14, CALLS),
+        b'w' => either(word, b"wait", 14, either(word, b"wrreg", 30, CALLS)),
         _ => CALLS,
     }
 }

@@ -4,7 +4,7 @@ use mathlib.Core.Path.{refl}
 use Rattle.cases.specs.Framing.{Framed, RefusedBeside, RefusedCodes, Sources, Prescaled, Levels, Fields, Written-bytes, Back}
 
 pub framed : Framed
-framed = record { uart = refl; spi = refl; back = refl; parts = refl; gathered = refl; missing = refl }
+framed = record { each = record { uart = refl; spi = refl; back = refl; parts = refl }; gathered = refl; missing = refl }
 
 pub refused-beside : RefusedBeside
 refused-beside = refl

@@ -14,8 +14,10 @@ pub bytes : Bytes
 bytes =
     record {
       first = refl;
+      first-of-registers = refl;
       behind-a-result = refl;
       behind-80 = refl;
+      behind-00-01 = refl;
       behind-a-code = refl;
       events = refl;
       wakes = refl;
@@ -30,6 +32,8 @@ related =
       to-select = exactly 0 [] refl;
       to-send = counted 3 (0xC1 ∷ 0xC2 ∷ 0xC3 ∷ []) refl;
       to-idle = waking 0xDB 0x08 refl;
+      to-read = exactly 1 (0x5F ∷ []) refl;
+      to-write = exactly 0 [] refl;
       to-echo = single;
       error = error Counted 0x8E apart refl;
     }
@@ -42,9 +46,9 @@ taken = record { whole = refl; error = refl; wrong = refl; cut = refl }
 
 pub every-state : EveryState
 every-state = (
-  record { to-idn = refl; to-select-2 = refl; to-select-0 = refl; to-idle = refl; to-echo = refl },
-  record { to-idn = refl; to-select-2 = refl; to-select-0 = refl; to-idle = refl; to-echo = refl },
-  record { to-idn = refl; to-select-2 = refl; to-select-0 = refl; to-idle = refl; to-echo = refl },
+  record { to-idn = refl; to-select-2 = refl; to-select-0 = refl; to-idle = refl; to-read = refl; to-write = refl; to-echo = refl },
+  record { to-idn = refl; to-select-2 = refl; to-select-0 = refl; to-idle = refl; to-read = refl; to-write = refl; to-echo = refl },
+  record { to-idn = refl; to-select-2 = refl; to-select-0 = refl; to-idle = refl; to-read = refl; to-write = refl; to-echo = refl },
   record { to-send = refl },
   record { to-send = refl },
 )

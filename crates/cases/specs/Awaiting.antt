@@ -1,4 +1,4 @@
--- Names that the cases share: the commands whose replies are awaited, answers and verdicts, and a frame read back as its command.
+-- Names that the cases share: what registers are given, the commands whose replies are awaited, answers and verdicts, and a frame read back as its command.
 -- Assumes nothing.
 use Prim.Native.Nat.{ℕ}
 use mathlib.Core.Bool.{Bool, true, false}
@@ -16,9 +16,23 @@ use Rattle.model.specs.declared.Verdict.{Verdict}
 use Rattle.model.specs.declared.Answer.{Answer}
 use Rattle.words.specs.Words.{pick}
 use Rattle.model.specs.Refusals.{numberOf, valuesOf}
-use Rattle.model.specs.Frames.{Command, idn, protocolSelect, sendRecv, idle, echo, readCommand}
+use Rattle.model.specs.Frames.{Command, idn, protocolSelect, sendRecv, idle, rdReg, wrReg, echo, readCommand}
 use Rattle.model.specs.Frames.{commandOf as namedBy}
 use Rattle.model.specs.Session.{awaitedOf}
+
+-- ---- what WrReg is given
+
+-- the index is set to ARC_B, with the flag
+abbrev pub index : ℕ → List ℕ
+index flag = 0x68 ∷ flag ∷ 0x01 ∷ []
+
+-- ARC_B is written
+abbrev pub tuning : ℕ → ℕ → List ℕ
+tuning flag value = 0x68 ∷ flag ∷ 0x01 ∷ value ∷ []
+
+-- the timer window is written
+abbrev pub window : ℕ → ℕ → List ℕ
+window flag value = 0x3A ∷ flag ∷ value ∷ 0x04 ∷ []
 
 -- ---- awaited commands
 
@@ -50,6 +64,12 @@ toSend = awaitedOf (sendRecv (0x26 ∷ []))
 
 abbrev pub toIdle : ℕ → Awaited
 toIdle source = awaitedOf (idle (sleeping source))
+
+abbrev pub toRead : ℕ → Awaited
+toRead register = awaitedOf (rdReg register)
+
+abbrev pub toWrite : List ℕ → Awaited
+toWrite xs = awaitedOf (wrReg xs)
 
 abbrev pub toEcho : Awaited
 toEcho = awaitedOf echo

@@ -7,8 +7,8 @@ use mathlib.Core.List.{List, [], _∷_, map}
 use Rattle.model.specs.declared.Guard.{Guard}
 use Rattle.model.specs.declared.Guard.the-variants.{Band, NoBand}
 use Rattle.model.specs.Refusals.{Number, none, number, bandNumber}
+use Rattle.words.specs.Words.{those}
 use Rattle.model.specs.Calibration.{band}
-use Rattle.cases.specs.Replies.{those}
 
 abbrev pub numbered : Number → List ℕ
 numbered none = []

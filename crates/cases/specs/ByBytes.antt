@@ -4,13 +4,15 @@ use Prim.Native.Nat.{ℕ}
 use mathlib.Core.Path.{_≡_}
 use mathlib.Core.Bool.{true, not}
 use mathlib.Core.List.{List, [], _∷_, _++_, map}
+use lib.ListN.{replicate}
 use Rattle.model.specs.declared.Awaited.{Awaited}
 use Rattle.model.specs.declared.End.the-variants.{Good, Woken, Error}
 use Rattle.model.specs.declared.Verdict.the-variants.{More}
 use Rattle.model.specs.declared.Wake.the-variants.{Timeout, Tag, IrqIn, SpiSs}
 use Rattle.model.specs.Replies.{wakeOf, Reply, meaning, reply}
-use Rattle.cases.specs.Awaiting.{toIdn, toSelect, toSend, toIdle, toEcho, good, failed, wakeBy, waking, isMalformed}
-use Rattle.cases.specs.Replies.{those, codes, bad, AllBad}
+use Rattle.words.specs.Words.{those}
+use Rattle.cases.specs.Awaiting.{index, window, toIdn, toSelect, toSend, toIdle, toRead, toWrite, toEcho, good, failed, wakeBy, waking, isMalformed}
+use Rattle.cases.specs.Replies.{codes, bad, AllBad}
 
 -- ---- every byte at each place
 
@@ -22,15 +24,21 @@ pub record Bytes : Type 0 where
   pub first :
       map (λ (a : Awaited). behind a []) (toIdn ∷ toSelect 0 ∷ toSelect 3 ∷ toSend ∷ toIdle 0x03 ∷ toEcho ∷ []) ≡
       (0x00 ∷ codes) ∷ (0x00 ∷ codes) ∷ (0x00 ∷ codes) ∷ (0x80 ∷ codes) ∷ (0x00 ∷ codes) ∷ (0x55 ∷ []) ∷ []
+  pub first-of-registers :
+      map (λ (a : Awaited). behind a []) (toRead 0x62 ∷ toRead 0x69 ∷ toWrite (index 0x00) ∷ toWrite (window 0x01 0x58) ∷ []) ≡ replicate 4 (0x00 ∷ codes)
   pub behind-a-result :
-      behind toIdn (0x00 ∷ []) ∷ behind (toSelect 0) (0x00 ∷ []) ∷ behind (toSelect 3) (0x00 ∷ []) ∷ behind (toIdle 0x03) (0x00 ∷ []) ∷ [] ≡
-      (0x0F ∷ []) ∷ (0x00 ∷ []) ∷ (0x00 ∷ []) ∷ (0x01 ∷ []) ∷ []
+      map (λ (a : Awaited). behind a (0x00 ∷ [])) (
+      toIdn ∷ toSelect 0 ∷ toSelect 3 ∷ toIdle 0x03 ∷ toRead 0x62 ∷ toRead 0x69 ∷ toWrite (index 0x00) ∷ toWrite (window 0x01 0x58) ∷ []) ≡
+      (0x0F ∷ []) ∷ (0x00 ∷ []) ∷ (0x00 ∷ []) ∷ (0x01 ∷ []) ∷ (0x01 ∷ []) ∷ (0x01 ∷ []) ∷ (0x00 ∷ []) ∷ (0x00 ∷ []) ∷ []
   -- of SendRecv any length
   pub behind-80 : behind toSend (0x80 ∷ []) ≡ those (λ (n : ℕ). true) 256 []
+  -- of a register any value
+  pub behind-00-01 : map (λ (register : ℕ). behind (toRead register) (0x00 ∷ 0x01 ∷ [])) (0x62 ∷ 0x69 ∷ []) ≡ replicate 2 (those (λ (n : ℕ). true) 256 [])
   pub behind-a-code :
       behind toIdn (0x82 ∷ []) ∷ behind (toSelect 0) (0x83 ∷ []) ∷ behind (toSelect 3) (0x85 ∷ []) ∷ behind toSend (0x8F ∷ []) ∷
-      behind (toIdle 0x03) (0x8D ∷ []) ∷ [] ≡
-      (0x00 ∷ []) ∷ (0x00 ∷ []) ∷ (0x00 ∷ []) ∷ (0x00 ∷ []) ∷ (0x00 ∷ []) ∷ []
+      behind (toIdle 0x03) (0x8D ∷ []) ∷ behind (toRead 0x62) (0x82 ∷ []) ∷ behind (toRead 0x69) (0x86 ∷ []) ∷ behind (toWrite (index 0x00)) (0x8F ∷ []) ∷
+      behind (toWrite (window 0x01 0x58)) (0x83 ∷ []) ∷ [] ≡
+      replicate 9 (0x00 ∷ [])
   -- the events of a WU source
   pub events :
       map (λ (source : ℕ). behind (toIdle source) (0x00 ∷ 0x01 ∷ []))
@@ -58,6 +66,8 @@ pub record Related : Type 0 where
   pub to-select : Reply (toSelect 3) (0x00 ∷ 0x00 ∷ []) Good []
   pub to-send : Reply toSend (0x80 ∷ 0x03 ∷ 0xC1 ∷ 0xC2 ∷ 0xC3 ∷ []) Good (0xC1 ∷ 0xC2 ∷ 0xC3 ∷ [])
   pub to-idle : Reply (toIdle 0xDB) (0x00 ∷ 0x01 ∷ 0x08 ∷ []) (Woken (wakeBy 0x08)) (0x08 ∷ [])
+  pub to-read : Reply (toRead 0x69) (0x00 ∷ 0x01 ∷ 0x5F ∷ []) Good (0x5F ∷ [])
+  pub to-write : Reply (toWrite (window 0x01 0x58)) (0x00 ∷ 0x00 ∷ []) Good []
   pub to-echo : Reply toEcho (0x55 ∷ []) Good []
   pub error : Reply toSend (0x8E ∷ 0x00 ∷ []) (Error 0x8E) []
 
@@ -68,25 +78,37 @@ pub record Taken : Type 0 where
   pub whole :
       reply toIdn (0x00 ∷ 0x0F ∷ fifteen ++ 0x99 ∷ 0x98 ∷ []) ∷ reply (toSelect 3) (0x00 ∷ 0x00 ∷ 0x99 ∷ 0x98 ∷ []) ∷
       reply toSend (0x80 ∷ 0x03 ∷ 0xC1 ∷ 0xC2 ∷ 0xC3 ∷ 0x99 ∷ 0x98 ∷ []) ∷ reply toSend (0x80 ∷ 0x00 ∷ 0x99 ∷ 0x98 ∷ []) ∷
-      reply (toIdle 0xDB) (0x00 ∷ 0x01 ∷ 0x08 ∷ 0x99 ∷ 0x98 ∷ []) ∷ reply toEcho (0x55 ∷ 0x99 ∷ 0x98 ∷ []) ∷ [] ≡
+      reply (toIdle 0xDB) (0x00 ∷ 0x01 ∷ 0x08 ∷ 0x99 ∷ 0x98 ∷ []) ∷ reply (toRead 0x62) (0x00 ∷ 0x01 ∷ 0xE7 ∷ 0x99 ∷ 0x98 ∷ []) ∷
+      reply (toRead 0x69) (0x00 ∷ 0x01 ∷ 0x00 ∷ 0x99 ∷ []) ∷ reply (toWrite (index 0x00)) (0x00 ∷ 0x00 ∷ 0x99 ∷ 0x98 ∷ []) ∷
+      reply toEcho (0x55 ∷ 0x99 ∷ 0x98 ∷ []) ∷ [] ≡
       meaning good fifteen 17 ∷ meaning good [] 2 ∷
       meaning good (0xC1 ∷ 0xC2 ∷ 0xC3 ∷ []) 5 ∷ meaning good [] 2 ∷
-      meaning (waking 0x08) (0x08 ∷ []) 3 ∷ meaning good [] 1 ∷ []
+      meaning (waking 0x08) (0x08 ∷ []) 3 ∷ meaning good (0xE7 ∷ []) 3 ∷
+      meaning good (0x00 ∷ []) 3 ∷ meaning good [] 2 ∷ meaning good [] 1 ∷ []
   pub error :
       reply toIdn (0x85 ∷ 0x00 ∷ 0x99 ∷ 0x98 ∷ []) ∷ reply (toSelect 3) (0x83 ∷ 0x00 ∷ 0x99 ∷ []) ∷ reply toSend (0x8E ∷ 0x00 ∷ 0x99 ∷ []) ∷
-      reply (toIdle 0xDB) (0x86 ∷ 0x00 ∷ 0x99 ∷ []) ∷ [] ≡
-      meaning (failed 0x85) [] 2 ∷ meaning (failed 0x83) [] 2 ∷ meaning (failed 0x8E) [] 2 ∷ meaning (failed 0x86) [] 2 ∷ []
+      reply (toIdle 0xDB) (0x86 ∷ 0x00 ∷ 0x99 ∷ []) ∷ reply (toRead 0x62) (0x8F ∷ 0x00 ∷ 0x99 ∷ []) ∷
+      reply (toWrite (window 0x01 0x58)) (0x82 ∷ 0x00 ∷ 0x99 ∷ []) ∷ [] ≡
+      meaning (failed 0x85) [] 2 ∷ meaning (failed 0x83) [] 2 ∷ meaning (failed 0x8E) [] 2 ∷ meaning (failed 0x86) [] 2 ∷
+      meaning (failed 0x8F) [] 2 ∷ meaning (failed 0x82) [] 2 ∷ []
   -- through the first malformed byte
   pub wrong :
       AllBad (
       bad toIdn (0x84 ∷ 0x00 ∷ 0x99 ∷ []) 0 ∷ bad toIdn (0x85 ∷ 0x85 ∷ 0x99 ∷ []) 1 ∷ bad toIdn (0x00 ∷ 0x10 ∷ 0x99 ∷ []) 1 ∷
       bad (toSelect 3) (0x00 ∷ 0x02 ∷ 0x99 ∷ []) 1 ∷ bad toSend (0x81 ∷ 0x00 ∷ 0x99 ∷ []) 0 ∷ bad toSend (0x8E ∷ 0x01 ∷ 0x99 ∷ []) 1 ∷
-      bad (toIdle 0xDB) (0x00 ∷ 0x01 ∷ 0x04 ∷ 0x99 ∷ []) 2 ∷ bad toEcho (0x54 ∷ 0x55 ∷ 0x99 ∷ []) 0 ∷ [])
+      bad (toIdle 0xDB) (0x00 ∷ 0x01 ∷ 0x04 ∷ 0x99 ∷ []) 2 ∷ bad toEcho (0x54 ∷ 0x55 ∷ 0x99 ∷ []) 0 ∷
+      bad (toRead 0x62) (0x80 ∷ 0x01 ∷ 0x13 ∷ []) 0 ∷ bad (toRead 0x69) (0x00 ∷ 0x02 ∷ 0x13 ∷ 0x14 ∷ []) 1 ∷ bad (toRead 0x69) (0x8F ∷ 0x01 ∷ 0x13 ∷ []) 1 ∷
+      bad (toWrite (index 0x00)) (0x55 ∷ 0x00 ∷ 0x99 ∷ []) 0 ∷ bad (toWrite (index 0x00)) (0x00 ∷ 0x01 ∷ 0x99 ∷ []) 1 ∷
+      bad (toWrite (window 0x01 0x58)) (0x83 ∷ 0x83 ∷ 0x99 ∷ []) 1 ∷ [])
   -- or all
   pub cut :
       reply toIdn [] ∷ reply toIdn (0x00 ∷ []) ∷ reply toIdn (0x00 ∷ 0x0F ∷ []) ∷ reply toIdn (0x00 ∷ 0x0F ∷ 0x31 ∷ 0x32 ∷ []) ∷ reply toIdn (0x85 ∷ []) ∷
       reply (toSelect 3) (0x00 ∷ []) ∷ reply toSend (0x80 ∷ []) ∷ reply toSend (0x80 ∷ 0x03 ∷ 0xC1 ∷ 0xC2 ∷ []) ∷
-      reply (toIdle 0xDB) (0x00 ∷ []) ∷ reply (toIdle 0xDB) (0x00 ∷ 0x01 ∷ []) ∷ reply toEcho [] ∷ [] ≡
+      reply (toIdle 0xDB) (0x00 ∷ []) ∷ reply (toIdle 0xDB) (0x00 ∷ 0x01 ∷ []) ∷ reply toEcho [] ∷
+      reply (toRead 0x69) [] ∷ reply (toRead 0x69) (0x00 ∷ []) ∷ reply (toRead 0x69) (0x00 ∷ 0x01 ∷ []) ∷ reply (toRead 0x69) (0x8F ∷ []) ∷
+      reply (toWrite (index 0x00)) [] ∷ reply (toWrite (index 0x00)) (0x00 ∷ []) ∷ reply (toWrite (index 0x00)) (0x83 ∷ []) ∷ [] ≡
       meaning More [] 0 ∷ meaning More [] 1 ∷ meaning More [] 2 ∷ meaning More [] 4 ∷ meaning More [] 1 ∷
       meaning More [] 1 ∷ meaning More [] 1 ∷ meaning More [] 4 ∷
-      meaning More [] 1 ∷ meaning More [] 2 ∷ meaning More [] 0 ∷ []
+      meaning More [] 1 ∷ meaning More [] 2 ∷ meaning More [] 0 ∷
+      meaning More [] 0 ∷ meaning More [] 1 ∷ meaning More [] 2 ∷ meaning More [] 1 ∷
+      meaning More [] 0 ∷ meaning More [] 1 ∷ meaning More [] 1 ∷ []

@@ -5,9 +5,8 @@ use mathlib.Core.Path.{_≡_}
 use mathlib.Core.List.{List, [], _∷_, map}
 use Rattle.words.specs.declared.Laid.{Laid}
 use Rattle.words.specs.declared.Laid.the-variants.{Short}
-use Rattle.words.specs.Words.{bit, within, pasted, laid, Bytes, concat}
+use Rattle.words.specs.Words.{bit, within, pasted, laid, Bytes, concat, those}
 use Rattle.words.specs.Contract.{Ran}
-use Rattle.cases.specs.Replies.{those}
 
 -- ---- bytes
 

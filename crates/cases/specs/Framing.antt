@@ -14,9 +14,9 @@ use Rattle.model.specs.declared.Refusal.the-variants.{Short, Invalid}
 use Rattle.model.specs.declared.Reading.{Reading}
 use Rattle.model.specs.declared.Written.{Written}
 use Rattle.model.specs.declared.Written.the-variants.{Sent}
+use Rattle.words.specs.Words.{those}
 use Rattle.model.specs.Frames.{Command, idn, protocolSelect, sendRecv, idle, echo, prescaler, sourceAllowed, settingsAllowed, allowed, permits, send, reset, poll, read, bytes, permitted, write, received, flags, settings, readCommand}
 use Rattle.cases.specs.Awaiting.{commandOf, partOf}
-use Rattle.cases.specs.Replies.{those}
 use Rattle.cases.specs.Published.{ran}
 
 -- ---- frames
@@ -59,14 +59,18 @@ frames =
     (0x55 ∷ []) ∷
     []
 
-pub record Framed : Type 0 where
+-- commands have these frames, and these parts of them are the data
+pub record FramedSo (commands : List Command) (frames places : List (List ℕ)) : Type 0 where
   pub uart : map (λ (c : Command). bytes Uart (send c)) commands ≡ frames
   pub spi : map (λ (c : Command). bytes Spi (send c)) commands ≡ map (λ (xs : List ℕ). 0x00 ∷ xs) frames
   pub back : map commandOf frames ≡ map (λ (c : Command). c ∷ []) commands
+  pub parts : map partOf frames ≡ places
+
+pub record Framed : Type 0 where
   -- data stand behind code and length
-  pub parts :
-      map partOf frames ≡
-      (2 ∷ 0 ∷ []) ∷ (2 ∷ 3 ∷ []) ∷ (2 ∷ 9 ∷ []) ∷ (2 ∷ 3 ∷ []) ∷ (2 ∷ 0 ∷ []) ∷ (2 ∷ 14 ∷ []) ∷ (1 ∷ 0 ∷ []) ∷ []
+  pub each :
+      FramedSo commands frames
+      ((2 ∷ 0 ∷ []) ∷ (2 ∷ 3 ∷ []) ∷ (2 ∷ 9 ∷ []) ∷ (2 ∷ 3 ∷ []) ∷ (2 ∷ 0 ∷ []) ∷ (2 ∷ 14 ∷ []) ∷ (1 ∷ 0 ∷ []) ∷ [])
   pub gathered : settings distinctData ≡ distinct
   -- data that are not there count as zeros, and no frame has them
   pub missing : settings [] ≡ settings (replicate 14 0)
@@ -77,9 +81,9 @@ pub record Framed : Type 0 where
 abbrev pub behind : List ℕ → List ℕ → List (List ℕ)
 behind heads rest = map (λ (x : ℕ). x ∷ rest) heads
 
--- codes that are none of 01, 02, 04, 07 and 55
+-- bytes that begin no frame with a length: none of 01, 02, 04, 07, 08 and 09
 abbrev pub strangeCodes : List ℕ
-strangeCodes = 0x00 ∷ 0x03 ∷ 0x05 ∷ 0x06 ∷ 0x08 ∷ 0x09 ∷ 0x54 ∷ 0x55 ∷ 0x56 ∷ 0xFF ∷ []
+strangeCodes = 0x00 ∷ 0x03 ∷ 0x05 ∷ 0x06 ∷ 0x0A ∷ 0x0B ∷ 0x54 ∷ 0x55 ∷ 0x56 ∷ 0xFF ∷ []
 
 abbrev pub RefusedBeside : Type 0
 RefusedBeside =
@@ -99,7 +103,7 @@ RefusedBeside =
     (0x54 ∷ []) ∷ (0x56 ∷ []) ∷ (0x00 ∷ []) ∷ (0xFF ∷ []) ∷ [])
     ≡ replicate 26 (Reading.Refused Invalid)
 
--- the data of each command behind another code
+-- the data of IDN, of ProtocolSelect and of Idle behind such a byte; those of registers are tried behind each of 256 (Registers)
 abbrev pub RefusedCodes : Type 0
 RefusedCodes =
     map readCommand (

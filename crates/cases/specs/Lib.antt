@@ -19,3 +19,4 @@ pub mod Chips
 pub mod Company
 pub mod Messages
 pub mod Small
+pub mod Registers

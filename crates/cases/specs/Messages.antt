@@ -20,13 +20,13 @@ use Rattle.model.specs.declared.CommandRead.{CommandRead}
 use Rattle.model.specs.declared.CommandRead.the-variants.{Taken}
 use Rattle.model.specs.declared.AnswerRead.{AnswerRead}
 use Rattle.model.specs.declared.AnswerRead.the-variants.{Carries, BoardError, ChipError}
-use Rattle.words.specs.Words.{pick, within}
+use Rattle.words.specs.Words.{pick, within, those}
 use Rattle.words.specs.Contract.{Ran}
 use Rattle.model.specs.Refusals.{Number, none, number, numberOf}
 use Rattle.model.specs.Frames.{part}
 use Rattle.model.specs.Messages.{messages, isBoardError, asking, answering, failing, writeCommand, writeAnswer, writeError, isFramed, isNumbered, readMessage, awaitedOf, byEnd, byVerdict, readAnswer, commandNumber, answerNumber}
 use Rattle.cases.specs.Awaiting.{toIdn, wrong}
-use Rattle.cases.specs.Replies.{those, codes}
+use Rattle.cases.specs.Replies.{codes}
 use Rattle.cases.specs.Published.{ran}
 
 -- ---- words of these cases

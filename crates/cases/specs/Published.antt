@@ -20,12 +20,12 @@ use Rattle.model.specs.declared.Waited.{Waited}
 use Rattle.model.specs.declared.Timing.{Timing}
 use Rattle.words.specs.Contract.{Ran}
 use Rattle.model.specs.Refusals.{numberOf, valuesOf, silent, ended, reportOf, none, number, numberIn, valuesIn}
+use Rattle.words.specs.Words.{those}
 use Rattle.model.specs.Frames.{Command, idn, protocolSelect, sendRecv, idle, echo, frame, prescaler, send, reset, poll, read, bytes, write, received, readCommand}
 use Rattle.model.specs.Checks.{isMild}
 use Rattle.model.specs.Times.{timesOf, waitOf}
 use Rattle.cases.specs.Awaiting.{sleeping}
 use Rattle.cases.specs.Starred.{calibrating, longest, ms}
-use Rattle.cases.specs.Replies.{those}
 
 -- ---- frames
 
@@ -82,7 +82,7 @@ abbrev pub Refused : Type 0
 Refused =
     map readCommand (
     [] ∷ (0x01 ∷ []) ∷ (0x00 ∷ []) ∷ (0x01 ∷ 0x01 ∷ 0x00 ∷ []) ∷ (0x01 ∷ 0x00 ∷ 0x00 ∷ []) ∷ (0x55 ∷ 0x00 ∷ []) ∷ (0x55 ∷ 0x55 ∷ []) ∷
-    (0x03 ∷ 0x00 ∷ []) ∷ (0x05 ∷ 0x00 ∷ []) ∷ (0x06 ∷ 0x00 ∷ []) ∷ (0x08 ∷ 0x03 ∷ 0x69 ∷ 0x01 ∷ 0x00 ∷ []) ∷
+    (0x03 ∷ 0x00 ∷ []) ∷ (0x05 ∷ 0x00 ∷ []) ∷ (0x06 ∷ 0x00 ∷ []) ∷ (0x0A ∷ 0x01 ∷ 0x0D ∷ []) ∷
     -- no parameter, nine, protocol 5
     (0x02 ∷ 0x00 ∷ []) ∷ (0x02 ∷ 0x01 ∷ 0x01 ∷ []) ∷ (0x02 ∷ 0x0A ∷ 0x01 ∷ replicate 9 0x00) ∷ (0x02 ∷ 0x02 ∷ 0x05 ∷ 0x00 ∷ []) ∷
     -- n is not the rest

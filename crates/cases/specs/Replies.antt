@@ -1,8 +1,7 @@
 -- Replies of the maker's papers and of document 01, what is malformed beside them, and pieces that are cut.
 -- Assumes nothing.
-use Prim.Native.Nat.{ℕ, zero, suc}
+use Prim.Native.Nat.{ℕ, suc}
 use mathlib.Core.Path.{_≡_}
-use mathlib.Core.Bool.{Bool}
 use mathlib.Core.List.{List, [], _∷_, _++_, map}
 use lib.ListN.{replicate, getD}
 use Rattle.model.specs.declared.Awaited.{Awaited}
@@ -10,17 +9,12 @@ use Rattle.model.specs.declared.Phase.the-variants.{Failed, Counting, Waking, D
 use Rattle.model.specs.declared.Verdict.the-variants.{More, NoRoom}
 use Rattle.model.specs.declared.Place.the-variants.{Nowhere, Piece, Room}
 use Rattle.model.specs.declared.Fed.{Fed}
-use Rattle.words.specs.Words.{pick}
+use Rattle.words.specs.Words.{those}
 use Rattle.words.specs.Contract.{Ran}
 use Rattle.model.specs.Replies.{isError, Meaning, meaning, reply, at, begun, feed, dataOf}
-use Rattle.cases.specs.Awaiting.{toIdn, toSelect, toSend, toIdle, toEcho, good, failed, wrong, waking}
+use Rattle.cases.specs.Awaiting.{index, toIdn, toSelect, toSend, toIdle, toRead, toWrite, toEcho, good, failed, wrong, waking}
 
 -- ---- the error codes
-
--- the numbers below n that pass a test, the least first
-abbrev pub those : (ℕ → Bool) → ℕ → List ℕ → List ℕ
-those f zero xs = xs
-those f (suc n) xs = those f n (pick (f n) (n ∷ xs) xs)
 
 abbrev pub codes : List ℕ
 codes = 0x82 ∷ 0x83 ∷ 0x85 ∷ 0x86 ∷ 0x87 ∷ 0x88 ∷ 0x89 ∷ 0x8A ∷ 0x8B ∷ 0x8C ∷ 0x8D ∷ 0x8E ∷ 0x8F ∷ []
@@ -119,7 +113,8 @@ pub record Pieces : Type 0 where
   pub counted-echo :
       feed (at toEcho Counting) (0x00 ∷ 0x01 ∷ []) room ≡ fed room (record { verdict = wrong 1 0x00; used = 1; place = Nowhere; progress = begun toEcho })
   pub strange :
-      map (λ (a : Awaited). feed (at a Waking) (0x01 ∷ []) room .answer .verdict) (toIdn ∷ toSelect 1 ∷ toSend ∷ toEcho ∷ []) ≡ replicate 4 (wrong 2 0x01)
+      map (λ (a : Awaited). feed (at a Waking) (0x01 ∷ []) room .answer .verdict) (
+      toIdn ∷ toSelect 1 ∷ toSend ∷ toRead 0x69 ∷ toWrite (index 0x00) ∷ toEcho ∷ []) ≡ replicate 6 (wrong 2 0x01)
 
 -- ---- places
 

@@ -16,10 +16,10 @@ use Rattle.model.specs.declared.State.the-variants.{Ready, Selected, Waiting, L
 use Rattle.model.specs.declared.Answer.{Answer}
 use Rattle.model.specs.declared.Answer.the-variants.{More, Good, Refused}
 use Rattle.model.specs.declared.Outcome.{Outcome}
-use Rattle.model.specs.Frames.{Command, idn, protocolSelect, sendRecv, idle, echo}
+use Rattle.model.specs.Frames.{Command, idn, protocolSelect, sendRecv, idle, rdReg, wrReg, echo}
 use Rattle.model.specs.Replies.{at}
 use Rattle.model.specs.Session.{Call, pulse, request, feed, step}
-use Rattle.cases.specs.Awaiting.{toIdn, toSelect, toSend, toIdle, woke}
+use Rattle.cases.specs.Awaiting.{index, window, toIdn, toSelect, toSend, toIdle, toRead, toWrite, woke}
 use Rattle.cases.specs.Sessions.{after, selected}
 use Rattle.cases.specs.Framing.{levelled}
 use Rattle.cases.specs.ByBytes.{fifteen}
@@ -73,8 +73,9 @@ sends = sendRecv (0x26 ∷ 0x01 ∷ [])
 abbrev pub three : List ℕ
 three = 0x80 ∷ 0x03 ∷ 0xC1 ∷ 0xC2 ∷ 0xC3 ∷ 0x99 ∷ 0x98 ∷ []
 
-abbrev pub event : ℕ → List ℕ
-event e = 0x00 ∷ 0x01 ∷ e ∷ 0x99 ∷ 0x98 ∷ []
+-- one data byte, an event or the value of a register
+abbrev pub single : ℕ → List ℕ
+single b = 0x00 ∷ 0x01 ∷ b ∷ 0x99 ∷ 0x98 ∷ []
 
 -- two bytes, and what follows
 abbrev pub pair : ℕ → ℕ → List ℕ
@@ -94,10 +95,19 @@ pub record From (before : List Call) (state : State) : Type 0 where
   -- a good Idle forgets the selection, its error does not
   pub to-idle :
       map (whole before sleep) (
-      event 0x01 ∷ event 0x02 ∷ event 0x08 ∷ event 0x10 ∷ pair 0x86 0x00 ∷ pair 0x86 0x86 ∷ event 0x00 ∷ event 0x04 ∷ event 0x03 ∷
+      single 0x01 ∷ single 0x02 ∷ single 0x08 ∷ single 0x10 ∷ pair 0x86 0x00 ∷ pair 0x86 0x86 ∷ single 0x00 ∷ single 0x04 ∷ single 0x03 ∷
       pair 0x00 0x00 ∷ pair 0x00 0x02 ∷ pair 0x01 0x00 ∷ []) ≡
       left Ready (woke 0x01) 3 (Piece 2 1) ∷ left Ready (woke 0x02) 3 (Piece 2 1) ∷ left Ready (woke 0x08) 3 (Piece 2 1) ∷
       left Ready (woke 0x10) 3 (Piece 2 1) ∷ fault state 0x86 2 ∷ bad 2 ∷ bad 3 ∷ bad 3 ∷ bad 3 ∷ bad 2 ∷ bad 2 ∷ bad 1 ∷ []
+  -- registers leave the state as it was
+  pub to-read :
+      map (whole before (rdReg 0x69)) (
+      single 0x5F ∷ single 0x00 ∷ pair 0x82 0x00 ∷ pair 0x8F 0x00 ∷ pair 0x83 0x01 ∷ pair 0x00 0x00 ∷ pair 0x00 0x02 ∷ pair 0x01 0x5F ∷ pair 0x80 0x01 ∷ []) ≡
+      left state Good 3 (Piece 2 1) ∷ left state Good 3 (Piece 2 1) ∷ fault state 0x82 2 ∷ fault state 0x8F 2 ∷ bad 2 ∷ bad 2 ∷ bad 2 ∷ bad 1 ∷ bad 1 ∷ []
+  pub to-write :
+      map (whole before (wrReg (index 0x00))) (
+      pair 0x00 0x00 ∷ pair 0x86 0x00 ∷ pair 0x82 0x00 ∷ pair 0x83 0x82 ∷ pair 0x00 0x01 ∷ pair 0x84 0x00 ∷ pair 0x55 0x00 ∷ []) ≡
+      left state Good 2 Nowhere ∷ fault state 0x86 2 ∷ fault state 0x82 2 ∷ bad 2 ∷ bad 2 ∷ bad 1 ∷ bad 1 ∷ []
   -- to Echo there is no error
   pub to-echo :
       map (whole before echo) (pair 0x55 0x99 ∷ pair 0x82 0x00 ∷ pair 0x00 0x00 ∷ pair 0x54 0x00 ∷ pair 0x56 0x00 ∷ []) ≡
@@ -123,15 +133,21 @@ pub record Cut (before : List Call) (state : State) : Type 0 where
       cut 1 before idn named ∷ cut 1 before idn (pair 0x87 0x00) ∷ cut 1 before idn (pair 0x87 0x87) ∷ cut 1 before idn (pair 0x00 0x0E) ∷
       cut 1 before (protocolSelect 2 (0x05 ∷ [])) (pair 0x00 0x00) ∷ cut 1 before (protocolSelect 2 (0x05 ∷ [])) (pair 0x88 0x00) ∷
       cut 1 before (protocolSelect 0 (0x05 ∷ [])) (pair 0x00 0x00) ∷ cut 1 before (protocolSelect 2 (0x05 ∷ [])) (pair 0x00 0x02) ∷
-      cut 1 before sleep (event 0x10) ∷ cut 1 before sleep (event 0x04) ∷ cut 1 before sleep (pair 0x89 0x00) ∷ cut 1 before sleep (pair 0x00 0x00) ∷ [] ≡
+      cut 1 before sleep (single 0x10) ∷ cut 1 before sleep (single 0x04) ∷ cut 1 before sleep (pair 0x89 0x00) ∷ cut 1 before sleep (pair 0x00 0x00) ∷
+      cut 1 before (rdReg 0x62) (single 0xE7) ∷ cut 1 before (rdReg 0x62) (pair 0x8A 0x00) ∷ cut 1 before (rdReg 0x62) (pair 0x00 0x00) ∷
+      map (cut 1 before (wrReg (window 0x01 0x58))) (pair 0x00 0x00 ∷ pair 0x8B 0x00 ∷ pair 0x8B 0x8B ∷ []) ≡
       left state Good 16 (Piece 1 15) ∷ fault state 0x87 1 ∷ bad 1 ∷ bad 1 ∷
       left (Selected 2) Good 1 Nowhere ∷ fault Ready 0x88 1 ∷
       left Ready Good 1 Nowhere ∷ bad 1 ∷
-      left Ready (woke 0x10) 2 (Piece 1 1) ∷ bad 2 ∷ fault state 0x89 1 ∷ bad 1 ∷ []
+      left Ready (woke 0x10) 2 (Piece 1 1) ∷ bad 2 ∷ fault state 0x89 1 ∷ bad 1 ∷
+      left state Good 2 (Piece 1 1) ∷ fault state 0x8A 1 ∷ bad 1 ∷
+      left state Good 1 Nowhere ∷ fault state 0x8B 1 ∷ bad 1 ∷ []
   -- behind the second and the third
   pub by-more :
-      cut 2 before idn named ∷ cut 3 before idn named ∷ cut 16 before idn named ∷ cut 2 before sleep (event 0x08) ∷ cut 2 before sleep (event 0x20) ∷ [] ≡
-      left state Good 15 (Piece 0 15) ∷ left state Good 14 (Room 15) ∷ left state Good 1 (Room 15) ∷ left Ready (woke 0x08) 1 (Piece 0 1) ∷ bad 1 ∷ []
+      cut 2 before idn named ∷ cut 3 before idn named ∷ cut 16 before idn named ∷ cut 2 before sleep (single 0x08) ∷ cut 2 before sleep (single 0x20) ∷
+      cut 2 before (rdReg 0x69) (single 0x5F) ∷ [] ≡
+      left state Good 15 (Piece 0 15) ∷ left state Good 14 (Room 15) ∷ left state Good 1 (Room 15) ∷ left Ready (woke 0x08) 1 (Piece 0 1) ∷ bad 1 ∷
+      left state Good 1 (Piece 0 1) ∷ []
 
 pub record CutSelected (before : List Call) (state : State) : Type 0 where
   pub send :
@@ -155,9 +171,13 @@ pub record Begun (before : List Call) (protocol : ℕ) : Type 0 where
       waits toIdn Counting protocol 1 ∷ waits toIdn (Data 0 15) protocol 2 ∷ waits toIdn (Data 1 15) protocol 3 ∷ waits toIdn (Data 14 15) protocol 16 ∷ []
   pub others-begun :
       whole before idn (0x8B ∷ []) ∷ whole before (protocolSelect 2 (0x05 ∷ [])) (0x00 ∷ []) ∷ whole before (protocolSelect 2 (0x05 ∷ [])) (0x8C ∷ []) ∷
-      whole before sleep (0x00 ∷ []) ∷ whole before sleep (0x00 ∷ 0x01 ∷ []) ∷ whole before sleep (0x8D ∷ []) ∷ [] ≡
+      whole before sleep (0x00 ∷ []) ∷ whole before sleep (0x00 ∷ 0x01 ∷ []) ∷ whole before sleep (0x8D ∷ []) ∷
+      whole before (rdReg 0x69) (0x00 ∷ []) ∷ whole before (rdReg 0x69) (0x00 ∷ 0x01 ∷ []) ∷ whole before (rdReg 0x62) (0x82 ∷ []) ∷
+      whole before (wrReg (index 0x00)) (0x00 ∷ []) ∷ whole before (wrReg (window 0x01 0x58)) (0x86 ∷ []) ∷ [] ≡
       waits toIdn (Failed 0x8B) protocol 1 ∷ waits (toSelect 2) Counting protocol 1 ∷ waits (toSelect 2) (Failed 0x8C) protocol 1 ∷
-      waits (toIdle 0xDB) Counting protocol 1 ∷ waits (toIdle 0xDB) Waking protocol 2 ∷ waits (toIdle 0xDB) (Failed 0x8D) protocol 1 ∷ []
+      waits (toIdle 0xDB) Counting protocol 1 ∷ waits (toIdle 0xDB) Waking protocol 2 ∷ waits (toIdle 0xDB) (Failed 0x8D) protocol 1 ∷
+      waits (toRead 0x69) Counting protocol 1 ∷ waits (toRead 0x69) (Data 0 1) protocol 2 ∷ waits (toRead 0x62) (Failed 0x82) protocol 1 ∷
+      waits (toWrite (index 0x00)) Counting protocol 1 ∷ waits (toWrite (window 0x01 0x58)) (Failed 0x86) protocol 1 ∷ []
 
 abbrev pub BegunSelected : Type 0
 BegunSelected =
@@ -180,8 +200,9 @@ roomAtEnd k before c piece =
 pub record Rooms : Type 0 where
   -- all data in one piece: untouched
   pub untouched :
-      map (λ (k : ℕ). roomAtEnd k (selected 3) sends three) (0 ∷ 1 ∷ 2 ∷ []) ++ map (λ (k : ℕ). roomAtEnd k (selected 3) sleep (event 0x02)) (0 ∷ 1 ∷ 2 ∷ []) ≡
-      replicate 6 lent
+      map (λ (k : ℕ). roomAtEnd k (selected 3) sends three) (0 ∷ 1 ∷ 2 ∷ []) ++ map (λ (k : ℕ). roomAtEnd k (selected 3) sleep (single 0x02)) (0 ∷ 1 ∷ 2 ∷ []) ++
+      map (λ (k : ℕ). roomAtEnd k (selected 3) (rdReg 0x69) (single 0x5F)) (0 ∷ 1 ∷ 2 ∷ []) ≡
+      replicate 9 lent
   -- data bytes already taken stand at the front, the rest is untouched
   pub front-of-send :
       roomAfter 3 (selected 3) sends three ∷ roomAfter 4 (selected 3) sends three ∷ roomAtEnd 3 (selected 3) sends three ∷ roomAtEnd 4 (selected 3) sends three ∷ [] ≡
@@ -191,5 +212,5 @@ pub record Rooms : Type 0 where
       (0x31 ∷ 0x32 ∷ drop 2 lent) ∷ (fifteen ++ 0xEF ∷ replicate 239 0xDD) ∷ []
   -- a malformed piece writes nothing
   pub malformed :
-      roomAtEnd 0 (selected 3) sends (pair 0x8E 0x01) ∷ roomAtEnd 1 (selected 3) sends (pair 0x8E 0x01) ∷ roomAtEnd 2 (selected 3) sleep (event 0x04) ∷ [] ≡
+      roomAtEnd 0 (selected 3) sends (pair 0x8E 0x01) ∷ roomAtEnd 1 (selected 3) sends (pair 0x8E 0x01) ∷ roomAtEnd 2 (selected 3) sleep (single 0x04) ∷ [] ≡
       replicate 3 lent

@@ -25,12 +25,12 @@ bufferOf (calibrate plan out) = out
 bufferOf (next out) = out
 bufferOf (feed piece room) = room
 
--- in a session where every call but the empty piece is refused, all 23 leave session and buffer as they were, and consume nothing
+-- in a session where every call but the empty piece is refused, all 30 leave session and buffer as they were, and consume nothing
 pub record Kept (s : Session) (calls : List Call) : Type 0 where
-  pub session : map (λ (c : Call). step s c .answer .session) calls ≡ replicate 23 s
+  pub session : map (λ (c : Call). step s c .answer .session) calls ≡ replicate 30 s
   pub buffer : map (λ (c : Call). step s c .bytes) calls ≡ map bufferOf calls
-  pub used : map (λ (c : Call). step s c .answer .used) calls ≡ replicate 23 0
-  pub place : map (λ (c : Call). step s c .answer .place) calls ≡ replicate 23 Nowhere
+  pub used : map (λ (c : Call). step s c .answer .used) calls ≡ replicate 30 0
+  pub place : map (λ (c : Call). step s c .answer .place) calls ≡ replicate 30 Nowhere
 
 -- Waiting in a calibration, over SPI with buffers a byte too short; and Lost, over UART with buffers long enough
 abbrev pub Unchanged : Type 0

@@ -15,7 +15,7 @@ use Rattle.model.specs.declared.Answer.the-variants.{Done, Sent, More, Good, Wo
 use Rattle.model.specs.declared.Guard.{Guard}
 use Rattle.model.specs.declared.Guard.the-variants.{Band, NoBand}
 use Rattle.model.specs.declared.Kind.{Kind}
-use Rattle.model.specs.declared.Kind.the-variants.{Idn, ProtocolSelect, SendRecv, Idle, Echo}
+use Rattle.model.specs.declared.Kind.the-variants.{Idn, ProtocolSelect, SendRecv, Idle, RdReg, WrReg, Echo}
 use Rattle.model.specs.declared.Reading.{Reading}
 use Rattle.model.specs.declared.Reading.the-variants.{Taken}
 use Rattle.model.specs.declared.Reading.the-variants.{Refused as NoFrame}
@@ -45,7 +45,7 @@ use Rattle.calls.specs.declared.Asked.{Asked}
 use Rattle.calls.specs.declared.Asked.the-variants.{Understood, Wrong}
 use Rattle.calls.specs.declared.Board.{Board}
 use Rattle.calls.specs.declared.Board.the-variants.{Asks, Reads, Answers, Fails, Replies}
-use Rattle.calls.specs.Calls.{kindName, messageName}
+use Rattle.calls.specs.Calls.{kindName, givenFor, messageName}
 use Rattle.reading.specs.Asking.{asked}
 use Rattle.faults.specs.Faults.{faultText}
 use Rattle.help.specs.Page.{page}
@@ -93,10 +93,12 @@ kind-short Idn more = tt
 kind-short ProtocolSelect more = tt
 kind-short SendRecv more = tt
 kind-short Idle more = tt
+kind-short RdReg more = tt
+kind-short WrReg more = tt
 kind-short Echo more = tt
 
 reading-short : (part : List ℕ) (reading : Reading) → T (short (readingText part reading))
-reading-short part (Taken frame) = kind-short (frame .kind) (hexes (rest part 2))
+reading-short part (Taken frame) = kind-short (frame .kind) (hexes (givenFor (frame .kind) (rest part 2)))
 reading-short part (NoFrame refusal) = tt
 
 question-short : (question : Question) (given : List ℕ) → T (short (questionText question given))

@@ -12,6 +12,7 @@ use Rattle.model.specs.Session.{power-on, pulse, request, reset, poll, read, ca
 use Rattle.words.proofs.Words.{ways}
 use Rattle.lines.specs.Lines.{fore, byteAt, skipped}
 use Rattle.calls.specs.declared.Act.{Act}
+use Rattle.calls.specs.Calls.{dataFor}
 use Rattle.calls.specs.declared.Act.the-variants.{PowerOn, Pulse, Sends, Reset, Poll, Read, Calibrate, Next}
 use Rattle.calls.specs.declared.Buffer.the-variants.{Out, Room}
 use Rattle.calls.specs.declared.Verb.{Verb}
@@ -27,7 +28,7 @@ use Rattle.desk.specs.Claims.{Made, OneCall}
 act-made : (s : Session) (act : Act) (number : ℕ) (given out : List ℕ) → Made s (acted s act number given out .answer .session)
 act-made s PowerOn number given out = record { call = power-on (interfaceOf number); is = refl }
 act-made s Pulse number given out = record { call = pulse; is = refl }
-act-made s (Sends kind) number given out = record { call = request (command kind given) out; is = refl }
+act-made s (Sends kind) number given out = record { call = request (command kind (dataFor kind given)) out; is = refl }
 act-made s Reset number given out = record { call = reset out; is = refl }
 act-made s Poll number given out = record { call = poll out; is = refl }
 act-made s Read number given out = record { call = read number out; is = refl }

@@ -16,6 +16,8 @@ idn                  IDN, to be sent                      sent BYTES [STATE]
 select PP BYTES      ProtocolSelect, its parameters       sent BYTES [STATE]
 send BYTES           SendRecv, its data                   sent BYTES [STATE]
 idle BYTES           Idle, its 14 data bytes              sent BYTES [STATE]
+rdreg RR             RdReg, the register's address        sent BYTES [STATE]
+wrreg BYTES          WrReg, its data                      sent BYTES [STATE]
 echo                 Echo, to be sent                     sent BYTES [STATE]
 reset                a reset over SPI                     sent BYTES [STATE]
 poll                 a poll over SPI                      sent BYTES [STATE]
@@ -57,7 +59,7 @@ usb-reply       name BYTES, firmware VV VV VV, inventory K BYTES, detecting,
                 irq-out low or high, calibrated LL HH; or error CODE
 CC              a command's code: 01, BC, A1, A3, A2, A4, in the order above
 STATE           power-up, ready, selected P, waiting idn (or select, send,
-                idle, echo), lost; and ', calibrating'
+                idle, rdreg, wrreg, echo), lost; and ', calibrating'
 A call may answer 'refused N', and a line that is no call answers
 'error: line L, column C: ..'. BYTES are pairs of hex digits, N is decimal.
 docs/CALLS.md has every call, every answer, and what to do about each refusal.",

@@ -29,6 +29,8 @@ pub fn row_of(kind: Kind) -> Row
         Kind::ProtocolSelect => entry(0x02, 2, 9, Rule::Protocol),
         Kind::SendRecv => entry(0x04, 0, 255, Rule::Any),
         Kind::Idle => entry(0x07, 14, 14, Rule::Idling),
+        Kind::RdReg => entry(0x08, 3, 3, Rule::RegisterRead),
+        Kind::WrReg => entry(0x09, 3, 4, Rule::RegisterWrite),
         Kind::Echo => entry(0x55, 0, 0, Rule::Any),
     }
 }
@@ -50,6 +52,8 @@ pub fn form_of(awaited: Awaited) -> Form
         Kind::ProtocolSelect => Form::Exactly { count: 0 },
         Kind::SendRecv => Form::Counted,
         Kind::Idle => Form::Awake { source: first },
+        Kind::RdReg => Form::Exactly { count: 1 },
+        Kind::WrReg => Form::Exactly { count: 0 },
         Kind::Echo => Form::Single,
     }
 }
@@ -62,6 +66,8 @@ pub fn kind_of(code: u8) -> Coded
         0x02 => Coded::Known(Kind::ProtocolSelect),
         0x04 => Coded::Known(Kind::SendRecv),
         0x07 => Coded::Known(Kind::Idle),
+        0x08 => Coded::Known(Kind::RdReg),
+        0x09 => Coded::Known(Kind::WrReg),
         0x55 => Coded::Known(Kind::Echo),
         _ => Coded::Unknown,
     }
@@ -82,6 +88,8 @@ fn does_obey(rule: Rule, payload: &[u8]) -> bool
         Rule::Any => true,
         Rule::Protocol => settings::at(payload, 0) <= 4,
         Rule::Idling => settings::is_allowed(settings::of_data(payload)),
+        Rule::RegisterRead => registers::is_read_allowed(payload),
+        Rule::RegisterWrite => registers::is_write_allowed(payload),
     }
 }
 

@@ -39,8 +39,8 @@ use Rattle.model.specs.Session.{made, Call, pulse, request, reset, poll,
 
 -- ---- frames
 
--- the codes of IDN, ProtocolSelect, SendRecv, Idle and Echo
-pub codes : map (λ (k : Kind). row k .code) kinds ≡ 0x01 ∷ 0x02 ∷ 0x04 ∷ 0x07 ∷ 0x55 ∷ []
+-- the codes of IDN, ProtocolSelect, SendRecv, Idle, RdReg, WrReg and Echo
+pub codes : map (λ (k : Kind). row k .code) kinds ≡ 0x01 ∷ 0x02 ∷ 0x04 ∷ 0x07 ∷ 0x08 ∷ 0x09 ∷ 0x55 ∷ []
 codes = refl
 
 -- n counts protocol and parameters

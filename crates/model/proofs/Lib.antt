@@ -1,4 +1,5 @@
 pub mod AtMessages
+pub mod AtRegisters
 pub mod AtValues
 pub mod Ordering
 pub mod Frames
@@ -8,6 +9,7 @@ pub mod Table
 pub mod Cutting
 pub mod Refusing
 pub mod Idling
+pub mod Registers
 pub mod Tree
 pub mod Cable
 pub mod Invariant

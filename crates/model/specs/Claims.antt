@@ -1,6 +1,6 @@
 -- The statements of the promises, as named types. proofs/ proves each.
 -- Assumes nothing.
-use Prim.Native.Nat.{ℕ, suc, _+_, _-_, _%_, _≤_, _<_}
+use Prim.Native.Nat.{ℕ, suc, _+_, _-_, _*_, _%_, _≤_, _<_}
 use mathlib.Core.Path.{_≡_}
 use mathlib.Core.Bool.{true, false}
 use mathlib.Core.Logic.{_↔_, _⊎_}
@@ -10,6 +10,7 @@ use Rattle.model.specs.declared.Interface.{Interface}
 use Rattle.model.specs.declared.Refusal.{Refusal}
 use Rattle.model.specs.declared.Refusal.the-variants.{Invalid}
 use Rattle.model.specs.declared.Settings.{Settings}
+use Rattle.model.specs.declared.Kind.the-variants.{RdReg, WrReg}
 use Rattle.model.specs.declared.Frame.{Frame}
 use Rattle.model.specs.declared.Reading.{Reading}
 use Rattle.model.specs.declared.Reading.the-variants.{Taken}
@@ -27,9 +28,10 @@ use Rattle.model.specs.declared.Search.{Search}
 use Rattle.model.specs.declared.Wake.{Wake}
 use Rattle.model.specs.declared.Session.{Session}
 use Rattle.model.specs.declared.Answer.{Answer}
-use Rattle.words.specs.Words.{Pastes, Bytes, concat}
+use Rattle.words.specs.Words.{among, Pastes, Bytes, concat}
 use Rattle.words.specs.Contract.{Ran, OneAnswer, OneOutcome}
-use Rattle.model.specs.Frames.{Command, idleData, frame, allowed, wrapped, Transfer, write, readCommand, commandOf, Writes, Reads, ReadsFirst, Receives, Flagged, Gathers, Allows, Prescales}
+use Rattle.model.specs.Registers.{modulations, gains}
+use Rattle.model.specs.Frames.{Command, command, idleData, frame, allowed, wrapped, Transfer, write, readCommand, commandOf, Writes, Reads, ReadsFirst, Receives, Flagged, Gathers, Allows, Prescales}
 use Rattle.model.specs.Replies.{leastRoom, Reply, Meaning, meaning, hasData, reply, begun, feed, dataOf, Feeds, Chooses}
 use Rattle.model.specs.Refusals.{number, bandNumber}
 use Rattle.model.specs.Calibration.{band, Sets, Hears, Guards}
@@ -78,6 +80,20 @@ OnlyFrames = (xs : List ℕ) (f : Frame) → readCommand xs ≡ Taken f → (all
 -- all else is refused with 2
 abbrev pub RefusesElse : Type 0
 RefusesElse = (xs : List ℕ) → ((c : Command) → allowed c ≡ true → frame c ≡ xs → ⊥) → readCommand xs ≡ Reading.Refused Invalid
+
+-- RdReg asks for the wake-up event register or for ARC_B, one byte of it, and for nothing else
+abbrev pub RegistersRead : Type 0
+RegistersRead = (xs : List ℕ) → (allowed (command RdReg xs) ≡ true) ↔ ((xs ≡ 0x62 ∷ 0x01 ∷ 0x00 ∷ []) ⊎ (xs ≡ 0x69 ∷ 0x01 ∷ 0x00 ∷ []))
+
+-- what WrReg may be given: the index of ARC_B; behind it a value of ARC_B, of a modulation index and a gain; or a timer window from 50 to 60 with 04
+pub data RegisterData : List ℕ → Type 0 where
+  index : (f : ℕ) → f ≤ 1 → RegisterData (0x68 ∷ f ∷ 0x01 ∷ [])
+  tuning : (f m g : ℕ) → f ≤ 1 → among m modulations ≡ true → among g gains ≡ true → RegisterData (0x68 ∷ f ∷ 0x01 ∷ (16 * m + g) ∷ [])
+  window : (f v : ℕ) → f ≤ 1 → 0x50 ≤ v → v ≤ 0x60 → RegisterData (0x3A ∷ f ∷ v ∷ 0x04 ∷ [])
+
+-- it takes these and nothing else
+abbrev pub RegistersWritten : Type 0
+RegistersWritten = (xs : List ℕ) → (allowed (command WrReg xs) ≡ true) ↔ RegisterData xs
 
 -- a refused write leaves the output as it was
 abbrev pub WritesNothing : Type 0

@@ -18,7 +18,7 @@ use Rattle.calls.specs.declared.Question.{Question}
 use Rattle.calls.specs.declared.Question.the-variants.{Times, Wait, Command, Received}
 use Rattle.calls.specs.declared.Question.the-variants.{Band as BandOf}
 use Rattle.calls.specs.declared.Question.the-variants.{Flags as FlagsOf}
-use Rattle.calls.specs.Calls.{kindName}
+use Rattle.calls.specs.Calls.{kindName, givenFor}
 use Rattle.refusals.specs.Refusals.{numberText, refusalText}
 use Rattle.durations.specs.Durations.{timesText, waitText}
 
@@ -30,9 +30,9 @@ guardText NoBand = numberText (bandNumber NoBand)
 
 -- ---- the call that sends a frame
 
--- what the call is given stands behind code and length
+-- the data stand behind code and length
 abbrev pub readingText : List ℕ → Reading → List (List ℕ)
-readingText part (Taken frame) = kindName (frame .kind) ∷ hexes (rest part 2)
+readingText part (Taken frame) = kindName (frame .kind) ∷ hexes (givenFor (frame .kind) (rest part 2))
 readingText part (NoFrame refusal) = refusalText refusal
 
 -- ---- what SPI brings back

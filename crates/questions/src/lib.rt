@@ -1,9 +1,12 @@
 // Questions that need no session: times, waits, bands, frames taken apart, and what SPI brings back.
+ghost use mathlib.Core.Path.{_≡_};
 ghost use mathlib.Core.List.{[], _∷_};
+ghost use Rattle.calls.specs.Calls.{givenFor};
 ghost use Rattle.text.specs.Writing.{Puts};
 ghost use Rattle.questions.specs.Questions.{yesOrNo, questionText};
 use calls::Question;
 use model::Guard;
+use model::Kind;
 use model::Reading;
 
 fn band(given: &[u8], text: &mut [u8]) -> usize
@@ -19,7 +22,17 @@ fn band(given: &[u8], text: &mut [u8]) -> usize
     }
 }
 
-// The call that would send a frame: its bytes stand behind code and length.
+// What the call that sends data is given: of RdReg's the register alone.
+fn given_for(kind: Kind, payload: &[u8]) -> &[u8]
+    ensures { λ r. ⌜ now r ≡ givenFor kind (now (payload .entry)) ⌝ }
+{
+    if kinds::are_same(kind, Kind::RdReg) {
+        return lines::front(payload, 1);
+    }
+    payload
+}
+
+// The call that would send a frame: its data stand behind code and length.
 fn command(given: &[u8], text: &mut [u8]) -> usize
     ensures { λ r. ⌜ Puts (now (text .entry)) 0 (questionText Question.Command (now (given .entry))) r (now (text .exit)) ⌝ }
 {
@@ -27,7 +40,7 @@ fn command(given: &[u8], text: &mut [u8]) -> usize
         Reading::Taken(frame) => {
             let kind = frame.kind;
             let next = calls::put_kind(text, 0, kind);
-            text::put_bytes(text, next, lines::after(given, 2))
+            text::put_bytes(text, next, given_for(kind, lines::after(given, 2)))
         }
         Reading::Refused(refusal) => refusals::put_refusal(text, refusal),
     }

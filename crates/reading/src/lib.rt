@@ -61,8 +61,10 @@ fn call_of(k: u8) -> Verb
         26 => Verb::Speaks(Board::Answers),
         27 => Verb::Speaks(Board::Fails),
         28 => Verb::Speaks(Board::Replies),
-        29 => Verb::Sets(Buffer::Out),
-        30 => Verb::Sets(Buffer::Room),
+        29 => Verb::Acts(Act::Sends(Kind::RdReg)),
+        30 => Verb::Acts(Act::Sends(Kind::WrReg)),
+        31 => Verb::Sets(Buffer::Out),
+        32 => Verb::Sets(Buffer::Room),
         _ => Verb::Helps,
     }
 }
@@ -113,11 +115,13 @@ fn shape_of(k: u8) -> Shape
         28 => Shape::Led {
             missing: Fault::NoCode,
         },
-        29 => Shape::Numbered {
+        29 => Shape::Exactly { wanted: 1 },
+        30 => Shape::Any,
+        31 => Shape::Numbered {
             greatest: LONGEST,
             wanted: 0,
         },
-        30 => Shape::Numbered {
+        32 => Shape::Numbered {
             greatest: LONGEST,
             wanted: 0,
         },

@@ -1,8 +1,8 @@
--- Words that every paper uses: a choice by a test, a bit of a byte, a part of a list, bytes laid or copied into a buffer.
+-- Words that every paper uses: a choice by a test, a bit of a byte, the numbers that pass a test, a part of a list, bytes laid or copied into a buffer.
 -- Assumes nothing.
-use Prim.Native.Nat.{ℕ, _+_, _/_, _%_, _^_, _<_}
+use Prim.Native.Nat.{ℕ, zero, suc, _+_, _/_, _%_, _^_, _<_}
 use mathlib.Core.Path.{_≡_}
-use mathlib.Core.Bool.{Bool, true, false}
+use mathlib.Core.Bool.{Bool, true, false, _||_}
 use mathlib.Core.List.{List, [], _∷_, _++_}
 use lib.Dec.{ltb, leb, eqb}
 use lib.ListN.{length, take, drop}
@@ -20,6 +20,16 @@ pick false a b = b
 -- bit k of w is set
 abbrev pub bit : ℕ → ℕ → Bool
 bit k w = eqb (w / 2 ^ k % 2) 1
+
+-- one of some
+abbrev pub among : ℕ → List ℕ → Bool
+among x [] = false
+among x (y ∷ ys) = eqb x y || among x ys
+
+-- the numbers below n that pass a test, the least first
+abbrev pub those : (ℕ → Bool) → ℕ → List ℕ → List ℕ
+those f zero xs = xs
+those f (suc n) xs = those f n (pick (f n) (n ∷ xs) xs)
 
 -- the bytes of xs that a part names
 abbrev pub within : List ℕ → Part → List ℕ

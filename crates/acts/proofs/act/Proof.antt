@@ -27,7 +27,7 @@ returns-3 c =
     let called = c .before .before in
     let told = called .before .before .before in
     let a = told .before .before .before .before .args in
-    by-name (a .s) (a .number) (now (a .given)) (now (a .out)) {r = called .request .result} {exit = called .request .last .1 .1 .1 .0} (told .what .given .1) (called .request .ensures)
+    by-name (a .s) (a .number) (now (a .given)) (now (a .out)) {r = called .send .result} {exit = called .send .last .1 .1 .1 .0} (told .what .given .1) (called .send .ensures)
 
 returns-4 : tie.Need-returns-4
 returns-4 c =

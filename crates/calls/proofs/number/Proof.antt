@@ -69,30 +69,30 @@ returns-9 c =
 
 returns-10 : tie.Need-returns-10
 returns-10 c =
-    let found = c .before .before .before .before .before .before .before .before in
+    let found = c .before .before .before .before .before .before .before .before .before .before in
     let at = found .before in
-    rw (c .either18 .ensures, c .before .either17 .ensures, c .before .before .either16 .ensures, c .before .before .before .either15 .ensures) (by-first (now (at .before .before .args .word)) 114 (sym (found .match .keys10) ∙ at .at .ensures))
+    rw (c .either19 .ensures, c .before .either18 .ensures, c .before .before .either17 .ensures, c .before .before .before .either16 .ensures, c .before .before .before .before .either15 .ensures) (by-first (now (at .before .before .args .word)) 114 (sym (found .match .keys10) ∙ at .at .ensures))
 
 returns-11 : tie.Need-returns-11
 returns-11 c =
     let found = c .before .before .before .before in
     let at = found .before in
-    rw (c .either20 .ensures, c .before .either19 .ensures) (by-first (now (at .before .before .args .word)) 115 (sym (found .match .keys11) ∙ at .at .ensures))
+    rw (c .either21 .ensures, c .before .either20 .ensures) (by-first (now (at .before .before .args .word)) 115 (sym (found .match .keys11) ∙ at .at .ensures))
 
 returns-12 : tie.Need-returns-12
 returns-12 c =
     let found = c .before .before in
     let at = found .before in
-    rw (c .either21 .ensures) (by-first (now (at .before .before .args .word)) 116 (sym (found .match .keys12) ∙ at .at .ensures))
+    rw (c .either22 .ensures) (by-first (now (at .before .before .args .word)) 116 (sym (found .match .keys12) ∙ at .at .ensures))
 
 returns-13 : tie.Need-returns-13
 returns-13 c = c .message-number .ensures
 
 returns-14 : tie.Need-returns-14
 returns-14 c =
-    let found = c .before .before in
+    let found = c .before .before .before .before in
     let at = found .before in
-    rw (c .either22 .ensures) (by-first (now (at .before .before .args .word)) 119 (sym (found .match .keys14) ∙ at .at .ensures))
+    rw (c .either24 .ensures, c .before .either23 .ensures) (by-first (now (at .before .before .args .word)) 119 (sym (found .match .keys14) ∙ at .at .ensures))
 
 returns-15 : tie.Need-returns-15
 returns-15 c =
@@ -155,6 +155,8 @@ number-spec =
     (λ c. search needs)
     (λ c. search needs)
     (λ c. search needs)
+    (λ c. search needs)
+    (λ c κs. search needs)
     (λ c κs. search needs)
     (λ c κs. search needs)
     (λ c κs. search needs)
@@ -167,6 +169,8 @@ number-spec =
     (λ c κs. search needs)
     message-number-requires
     (λ c. search needs)
+    (λ c. search needs)
+    (λ c κs. search needs)
     (λ c κs. search needs)
     returns
     returns-2

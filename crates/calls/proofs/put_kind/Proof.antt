@@ -21,10 +21,22 @@ returns-4 c = let put = c .before .before in told kindName (put .put4 .result) (
 returns-5 : tie.Need-returns-5
 returns-5 c = let put = c .before .before in told kindName (put .put5 .result) (put .put5 .last .0) (put .before .before .before .enum-told5 .given .1) (put .put5 .ensures)
 
+returns-6 : tie.Need-returns-6
+returns-6 c = let put = c .before .before in told kindName (put .put6 .result) (put .put6 .last .0) (put .before .before .before .enum-told6 .given .1) (put .put6 .ensures)
+
+returns-7 : tie.Need-returns-7
+returns-7 c = let put = c .before .before in told kindName (put .put7 .result) (put .put7 .last .0) (put .before .before .before .enum-told7 .given .1) (put .put7 .ensures)
+
 pub put-kind-spec : {M : Type 1} → statement M
 put-kind-spec =
     tie.close
     (tie.spec
+    (λ c. search needs)
+    (λ c. search needs)
+    (λ c κs. search needs)
+    (λ c. search needs)
+    (λ c. search needs)
+    (λ c κs. search needs)
     (λ c. search needs)
     (λ c. search needs)
     (λ c κs. search needs)
@@ -49,4 +61,8 @@ put-kind-spec =
     (λ c. search needs)
     returns-4
     (λ c. search needs)
-    returns-5)
+    returns-5
+    (λ c. search needs)
+    returns-6
+    (λ c. search needs)
+    returns-7)

@@ -21,6 +21,12 @@ does-obey-spec =
     (λ c. search needs)
     (λ c κs. search needs)
     (λ c κs. search needs)
+    (λ c. search needs)
+    (λ c κs. search needs)
+    (λ c. search needs)
+    (λ c κs. search needs)
     (λ c. simp (c .enum-told .given .1))
     returns-2
-    returns-3)
+    returns-3
+    (λ c. simp (c .before .enum-told4 .given .1) (c .is-read-allowed .ensures))
+    (λ c. simp (c .before .enum-told5 .given .1) (c .is-write-allowed .ensures)))

@@ -17,4 +17,6 @@ kind-of-spec =
     (λ c. simp (c .match .keys3) refl)
     (λ c. simp (c .match .keys4) refl)
     (λ c. simp (c .match .keys5) refl)
+    (λ c. simp (c .match .keys6) refl)
+    (λ c. simp (c .match .keys7) refl)
     (λ c. none (λ (k : Kind). row k .code) Known Unknown (c .before .args .code) (Unit {0}) kinds (c .match .rest)))

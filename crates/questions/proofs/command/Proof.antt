@@ -2,10 +2,11 @@
 -- Assumes nothing.
 use borrow.Author.Needs.{needs}
 use Prim.Native.Nat.{ℕ}
-use mathlib.Core.Path.{_≡_, sym, _∙_}
+use mathlib.Core.Path.{_≡_, sym, ap, _∙_}
 use mathlib.Core.List.{List}
 use denote.Ref.{now}
 use Rattle.lines.specs.Lines.{rest}
+use Rattle.calls.specs.Calls.{givenFor}
 use Rattle.text.specs.Writing.{hexes}
 use Rattle.text.proofs.Writing.{_then_, by}
 use Rattle.questions.specs.Questions.{readingText}
@@ -20,10 +21,12 @@ returns : tie.Need-returns
 returns c =
     let last = c .before .before in
     let part = last .before in
-    let put = part .before .before .before .before in
+    let put = part .before .before .before .before .before in
     let taken = put .before .before .before in
     let read = taken .before .before in
-    let behind : now (part .after .result) ≡ rest (bytes read) 2 = part .after .ensures in
+    let kind = taken .frame .given .0 .0 .kind in
+    let behind : now (part .given-for .result) ≡ givenFor kind (rest (bytes read) 2) =
+    part .given-for .ensures ∙ ap (givenFor kind) (part .before .after .ensures) in
     by (readingText (bytes read)) (sym (read .read-command .ensures) ∙ taken .frame .given .1)
     (put .put-kind .ensures then by hexes (sym behind) (last .put-bytes .ensures))
 
@@ -40,6 +43,7 @@ command-spec =
     (tie.spec
     (λ c κs. search needs)
     (λ c. search needs)
+    (λ c κs. search needs)
     (λ c κs. search needs)
     (λ c κs. search needs)
     (λ c κs. search needs)

@@ -6,8 +6,8 @@ use Rattle.calls.proofs.Names.{last, past, takes-nothing}
 use Rattle.reading.proofs.shape_of.Statement.{statement}
 use Rattle.reading.proofs.shape_of.Tie as tie
 
-returns-32 : tie.Need-returns-32
-returns-32 c = let k = c .before .args .k in takes-nothing k (past last k (c .match .rest))
+returns-34 : tie.Need-returns-34
+returns-34 c = let k = c .before .args .k in takes-nothing k (past last k (c .match .rest))
 
 pub shape-of-spec : {M : Type 1} → statement M
 shape-of-spec =
@@ -44,4 +44,6 @@ shape-of-spec =
     (λ c. sym (ap shapeOf (c .match .keys29)))
     (λ c. sym (ap shapeOf (c .match .keys30)))
     (λ c. sym (ap shapeOf (c .match .keys31)))
-    returns-32)
+    (λ c. sym (ap shapeOf (c .match .keys32)))
+    (λ c. sym (ap shapeOf (c .match .keys33)))
+    returns-34)
