@@ -69,18 +69,9 @@ fn are_same(one: Access, other: Access) -> bool
 fn covers(row: Range, asked: Range) -> bool
     ensures { λ r. ⌜ r ≡ covered row asked ⌝ }
 {
-    if row.0 != asked.0 {
-        return false;
-    }
-    if asked.1 < row.1 {
-        return false;
-    }
-    if row.2 < asked.2 {
-        return false;
-    }
     let access = row.3;
     let wanted = asked.3;
-    are_same(access, wanted)
+    row.0 == asked.0 && row.1 <= asked.1 && asked.2 <= row.2 && are_same(access, wanted)
 }
 
 // All rows.

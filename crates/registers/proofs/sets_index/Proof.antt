@@ -11,12 +11,12 @@ written : (c : tie.After-is-write) → c .is-write .result ≡ isWrite 3 0x68 (n
 written c = c .is-write .ensures
 
 returns : tie.Need-returns
-returns c = simp (← written (c .before), c .if1 .left)
-
-returns-2 : tie.Need-returns-2
-returns-2 c =
+returns c =
     let write = c .before .before in
     simp (← written (write .before), write .if1 .taken, ← c .before .at .ensures) (c .is-index .ensures)
 
+returns-2 : tie.Need-returns-2
+returns-2 c = simp (← written (c .before), c .if1 .left)
+
 pub sets-index-spec : {M : Type 1} → statement M
-sets-index-spec = tie.close (tie.spec (λ c κs. search needs) returns (λ c κs. search needs) (λ c κs. search needs) returns-2)
+sets-index-spec = tie.close (tie.spec (λ c κs. search needs) (λ c κs. search needs) (λ c κs. search needs) returns returns-2)

@@ -2,35 +2,36 @@
 -- Assumes nothing.
 use borrow.Author.Needs.{needs}
 use Prim.Native.Nat.{ℕ}
-use mathlib.Core.Path.{_≡_, ap}
+use mathlib.Core.Path.{_≡_, ap, _∙_}
+use mathlib.Core.Bool.{_&&_}
+use mathlib.Core.Logic.{inl, inr}
+use mathlib.Core.List.{List}
 use lib.Dec.{eqb}
+use lib.ListN.{getD}
 use denote.Ref.{now}
-use Rattle.model.specs.Registers.{isWrite}
+use Rattle.model.specs.Registers.{isWrite, isWindow}
 use Rattle.registers.proofs.sets_window.Statement.{statement}
 use Rattle.registers.proofs.sets_window.Tie as tie
 
 written : (c : tie.After-is-write) → c .is-write .result ≡ isWrite 4 0x3A (now (c .before .before .args .payload))
 written c = c .is-write .ensures
 
+abbrev given : tie.Joined1 → List ℕ
+given c = now (c .before .before .before .args .payload)
+
+-- the write, and the value
+two : (c : tie.Joined1) → c .if1 .if2 ≡ (isWrite 4 0x3A (given c) && isWindow (getD (given c) 2 0))
+two c =
+    elim (c .if1 .came) [
+      | inl e ↦ simp (← written (c .before), e .0 .taken, ← e .1 .ensures) (e .3 ∙ e .2 .ensures)
+      | inr e ↦ simp (← written (c .before), e .0 .left) (e .1 ∙ e .0 .left)
+    ]
+
 returns : tie.Need-returns
-returns c = simp (← written (c .before), c .if1 .left)
+returns c = simp (← two (c .before .before), c .before .if2 .taken) (ap (λ (b : ℕ). eqb b 0x04) (c .at2 .ensures))
 
 returns-2 : tie.Need-returns-2
-returns-2 c =
-    let write = c .before .before .before in
-    simp (← written (write .before), write .if1 .taken, ← c .before .before .at .ensures, ← c .before .is-window .ensures, c .if2 .left)
-
-returns-3 : tie.Need-returns-3
-returns-3 c =
-    let value = c .before in
-    let write = value .before .before .before in
-    simp (
-      ← written (write .before),
-      write .if1 .taken,
-      ← value .before .before .at .ensures,
-      ← value .before .is-window .ensures,
-      value .if2 .taken,
-    ) (ap (λ (b : ℕ). eqb b 0x04) (c .at2 .ensures))
+returns-2 c = simp (← two (c .before), c .if2 .left)
 
 pub sets-window-spec : {M : Type 1} → statement M
-sets-window-spec = tie.close (tie.spec (λ c κs. search needs) returns (λ c κs. search needs) (λ c κs. search needs) returns-2 (λ c κs. search needs) returns-3)
+sets-window-spec = tie.close (tie.spec (λ c κs. search needs) (λ c κs. search needs) (λ c κs. search needs) (λ c κs. search needs) returns returns-2)

@@ -1,53 +1,45 @@
 -- `registers::ranges::covers` meets its contract: a test a column.
 -- Assumes nothing.
 use borrow.Author.Needs.{needs}
-use borrow.Author.Tests.{eq-eqb, ne-eqb, le-leb, lt-leb}
-use Prim.Native.Nat.{_≤_, _<_}
+use borrow.Author.Tests.{eq-eqb, ne-eqb}
 use mathlib.Core.Path.{_≡_, _∙_}
-use mathlib.Core.Bool.{false}
+use mathlib.Core.Bool.{_&&_}
+use mathlib.Core.Logic.{inl, inr}
+use lib.Dec.{leb, eqb}
 use Rattle.registers.specs.declared.ranges.Range.{Range}
-use Rattle.registers.specs.LookUp.{same, covered}
 use Rattle.registers.proofs.ranges.covers.Statement.{statement}
 use Rattle.registers.proofs.ranges.covers.Tie as tie
 
-module _ (row asked : Range) where
-  other : (row .0 ≡ asked .0 → ⊥) → false ≡ covered row asked
-  other ne = simp (ne-eqb (row .0) (asked .0) ne)
+abbrev row : tie.Joined1 → Range
+row c = c .before .before .before .args .row
 
-  below : row .0 ≡ asked .0 → asked .1 < row .1 → false ≡ covered row asked
-  below e l = simp (eq-eqb (row .0) (asked .0) e, lt-leb (row .1) (asked .1) l)
+abbrev asked : tie.Joined1 → Range
+asked c = c .before .before .before .args .asked
 
-  above : row .0 ≡ asked .0 → row .1 ≤ asked .1 → row .2 < asked .2 → false ≡ covered row asked
-  above e l g = simp (eq-eqb (row .0) (asked .0) e, le-leb (row .1) (asked .1) l, lt-leb (asked .2) (row .2) g)
+-- the register, and the least value
+two : (c : tie.Joined1) → c .if1 .if2 ≡ (eqb (row c .0) (asked c .0) && leb (row c .1) (asked c .1))
+two c =
+    elim (c .if1 .came) [
+      | inl e ↦ simp (eq-eqb (row c .0) (asked c .0) (e .0 .taken)) (e .3)
+      | inr e ↦
+          let other = ne-eqb (row c .0) (asked c .0) (e .0 .left) in
+          simp other (e .1 ∙ other)
+    ]
 
-  within : row .0 ≡ asked .0 → row .1 ≤ asked .1 → asked .2 ≤ row .2 → same (row .3) (asked .3) ≡ covered row asked
-  within e l g = simp (eq-eqb (row .0) (asked .0) e, le-leb (row .1) (asked .1) l, le-leb (asked .2) (row .2) g)
+-- and the greatest
+three : (c : tie.Joined2) → c .if2 .if3
+    ≡ (eqb (row (c .before) .0) (asked (c .before) .0) && leb (row (c .before) .1) (asked (c .before) .1) && leb (asked (c .before) .2) (row (c .before) .2))
+three c =
+    elim (c .if2 .came) [
+      | inl e ↦ simp (← two (c .before), e .0 .taken) (e .3)
+      | inr e ↦ simp (← two (c .before), e .0 .left) (e .1 ∙ e .0 .left)
+    ]
 
 returns : tie.Need-returns
-returns c =
-    let a = c .before .before .before .args in
-    other (a .row) (a .asked) (c .if1 .taken)
+returns c = simp (← three (c .before .before), c .before .if3 .taken) (c .are-same .ensures)
 
 returns-2 : tie.Need-returns-2
-returns-2 c =
-    let alike = c .before .before .before in
-    let a = alike .before .before .before .args in
-    below (a .row) (a .asked) (alike .if1 .left) (c .if2 .taken)
-
-returns-3 : tie.Need-returns-3
-returns-3 c =
-    let least = c .before .before .before in
-    let alike = least .before .before .before in
-    let a = alike .before .before .before .args in
-    above (a .row) (a .asked) (alike .if1 .left) (least .if2 .left) (c .if3 .taken)
-
-returns-4 : tie.Need-returns-4
-returns-4 c =
-    let greatest = c .before in
-    let least = greatest .before .before .before in
-    let alike = least .before .before .before in
-    let a = alike .before .before .before .args in
-    c .are-same .ensures ∙ within (a .row) (a .asked) (alike .if1 .left) (least .if2 .left) (greatest .if3 .left)
+returns-2 c = simp (← three (c .before), c .if3 .left)
 
 pub covers-spec : {M : Type 1} → statement M
-covers-spec = tie.close (tie.spec returns returns-2 returns-3 (λ c κs. search needs) returns-4)
+covers-spec = tie.close (tie.spec (λ c κs. search needs) returns returns-2)
