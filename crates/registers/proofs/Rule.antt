@@ -1,4 +1,4 @@
--- The rule of the table: what is listed of every value is what the paper permits, by one computed test over the whole table.
+-- The rule of the table: what is listed of every value is what the paper permits, by one computed test over the whole table for each question asked of it.
 -- Assumes nothing.
 use Prim.Native.Nat.{ℕ, _<_}
 use mathlib.Core.Path.{_≡_, refl, ap, _∙_}
