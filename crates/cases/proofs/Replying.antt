@@ -7,6 +7,7 @@ use mathlib.Core.List.{[], _∷_}
 use Rattle.model.specs.declared.Form.{Form}
 use Rattle.model.specs.declared.Form.the-variants.{Counted, Single}
 use Rattle.model.specs.Replies.{exactly, counted, waking, single, error}
+use Rattle.cases.specs.Awaiting.{counting}
 use Rattle.cases.specs.ByBytes.{Bytes, Related, Taken, fifteen}
 use Rattle.cases.specs.Replying.{EveryState, EveryCut, EveryBeginning, Rooms}
 
@@ -17,6 +18,8 @@ bytes =
       first-of-registers = refl;
       behind-a-result = refl;
       behind-80 = refl;
+      behind-a0 = refl;
+      behind-c0 = refl;
       behind-00-01 = refl;
       behind-a-code = refl;
       events = refl;
@@ -30,7 +33,9 @@ related =
     record {
       to-idn = exactly 15 fifteen refl;
       to-select = exactly 0 [] refl;
-      to-send = counted 3 (0xC1 ∷ 0xC2 ∷ 0xC3 ∷ []) refl;
+      to-send = counted 0x80 0x03 (0xC1 ∷ 0xC2 ∷ 0xC3 ∷ []) refl refl (omega arith);
+      to-send-long = counted 0xA0 0x01 (counting 0x31 257) refl refl (omega arith);
+      to-send-longest = counted 0xC0 0x10 (counting 0x31 528) refl refl (omega arith);
       to-idle = waking 0xDB 0x08 refl;
       to-read = exactly 1 (0x5F ∷ []) refl;
       to-write = exactly 0 [] refl;

@@ -1,6 +1,6 @@
--- Names that the cases share: what registers are given, the commands whose replies are awaited, answers and verdicts, and a frame read back as its command.
+-- Names that the cases share: bytes that all differ, what registers are given, the commands whose replies are awaited, answers and verdicts, and a frame read back as its command.
 -- Assumes nothing.
-use Prim.Native.Nat.{ℕ}
+use Prim.Native.Nat.{ℕ, zero, suc, _%_}
 use mathlib.Core.Bool.{Bool, true, false}
 use mathlib.Core.List.{List, [], _∷_}
 use lib.Dec.{eqb}
@@ -19,6 +19,11 @@ use Rattle.model.specs.Refusals.{numberOf, valuesOf}
 use Rattle.model.specs.Frames.{Command, idn, protocolSelect, sendRecv, idle, rdReg, wrReg, echo, readCommand}
 use Rattle.model.specs.Frames.{commandOf as namedBy}
 use Rattle.model.specs.Session.{awaitedOf}
+
+-- so many bytes from one on, no two of 256 alike
+abbrev pub counting : ℕ → ℕ → List ℕ
+counting from zero = []
+counting from (suc n) = from % 256 ∷ counting (suc from) n
 
 -- ---- what WrReg is given
 

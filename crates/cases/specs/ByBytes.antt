@@ -11,7 +11,7 @@ use Rattle.model.specs.declared.Verdict.the-variants.{More}
 use Rattle.model.specs.declared.Wake.the-variants.{Timeout, Tag, IrqIn, SpiSs}
 use Rattle.model.specs.Replies.{wakeOf, Reply, meaning, reply}
 use Rattle.words.specs.Words.{those}
-use Rattle.cases.specs.Awaiting.{index, window, toIdn, toSelect, toSend, toIdle, toRead, toWrite, toEcho, good, failed, wakeBy, waking, isMalformed}
+use Rattle.cases.specs.Awaiting.{counting, index, window, toIdn, toSelect, toSend, toIdle, toRead, toWrite, toEcho, good, failed, wakeBy, waking, isMalformed}
 use Rattle.cases.specs.Replies.{codes, bad, AllBad}
 
 -- ---- every byte at each place
@@ -23,15 +23,19 @@ behind a xs = those (λ (b : ℕ). not (isMalformed (reply a (xs ++ b ∷ []) .v
 pub record Bytes : Type 0 where
   pub first :
       map (λ (a : Awaited). behind a []) (toIdn ∷ toSelect 0 ∷ toSelect 3 ∷ toSend ∷ toIdle 0x03 ∷ toEcho ∷ []) ≡
-      (0x00 ∷ codes) ∷ (0x00 ∷ codes) ∷ (0x00 ∷ codes) ∷ (0x80 ∷ codes) ∷ (0x00 ∷ codes) ∷ (0x55 ∷ []) ∷ []
+      (0x00 ∷ codes) ∷ (0x00 ∷ codes) ∷ (0x00 ∷ codes) ∷ (0x80 ∷ codes ++ 0xA0 ∷ 0xC0 ∷ []) ∷ (0x00 ∷ codes) ∷ (0x55 ∷ []) ∷ []
   pub first-of-registers :
       map (λ (a : Awaited). behind a []) (toRead 0x62 ∷ toRead 0x69 ∷ toWrite (index 0x00) ∷ toWrite (window 0x01 0x58) ∷ []) ≡ replicate 4 (0x00 ∷ codes)
   pub behind-a-result :
       map (λ (a : Awaited). behind a (0x00 ∷ [])) (
       toIdn ∷ toSelect 0 ∷ toSelect 3 ∷ toIdle 0x03 ∷ toRead 0x62 ∷ toRead 0x69 ∷ toWrite (index 0x00) ∷ toWrite (window 0x01 0x58) ∷ []) ≡
       (0x0F ∷ []) ∷ (0x00 ∷ []) ∷ (0x00 ∷ []) ∷ (0x01 ∷ []) ∷ (0x01 ∷ []) ∷ (0x01 ∷ []) ∷ (0x00 ∷ []) ∷ (0x00 ∷ []) ∷ []
-  -- of SendRecv any length
+  -- of SendRecv any length up to 528
   pub behind-80 : behind toSend (0x80 ∷ []) ≡ those (λ (n : ℕ). true) 256 []
+  pub behind-a0 : behind toSend (0xA0 ∷ []) ≡ those (λ (n : ℕ). true) 256 []
+  pub behind-c0 :
+      behind toSend (0xC0 ∷ []) ≡
+      0x00 ∷ 0x01 ∷ 0x02 ∷ 0x03 ∷ 0x04 ∷ 0x05 ∷ 0x06 ∷ 0x07 ∷ 0x08 ∷ 0x09 ∷ 0x0A ∷ 0x0B ∷ 0x0C ∷ 0x0D ∷ 0x0E ∷ 0x0F ∷ 0x10 ∷ []
   -- of a register any value
   pub behind-00-01 : map (λ (register : ℕ). behind (toRead register) (0x00 ∷ 0x01 ∷ [])) (0x62 ∷ 0x69 ∷ []) ≡ replicate 2 (those (λ (n : ℕ). true) 256 [])
   pub behind-a-code :
@@ -65,6 +69,8 @@ pub record Related : Type 0 where
   pub to-idn : Reply toIdn (0x00 ∷ 0x0F ∷ fifteen) Good fifteen
   pub to-select : Reply (toSelect 3) (0x00 ∷ 0x00 ∷ []) Good []
   pub to-send : Reply toSend (0x80 ∷ 0x03 ∷ 0xC1 ∷ 0xC2 ∷ 0xC3 ∷ []) Good (0xC1 ∷ 0xC2 ∷ 0xC3 ∷ [])
+  pub to-send-long : Reply toSend (0xA0 ∷ 0x01 ∷ counting 0x31 257) Good (counting 0x31 257)
+  pub to-send-longest : Reply toSend (0xC0 ∷ 0x10 ∷ counting 0x31 528) Good (counting 0x31 528)
   pub to-idle : Reply (toIdle 0xDB) (0x00 ∷ 0x01 ∷ 0x08 ∷ []) (Woken (wakeBy 0x08)) (0x08 ∷ [])
   pub to-read : Reply (toRead 0x69) (0x00 ∷ 0x01 ∷ 0x5F ∷ []) Good (0x5F ∷ [])
   pub to-write : Reply (toWrite (window 0x01 0x58)) (0x00 ∷ 0x00 ∷ []) Good []

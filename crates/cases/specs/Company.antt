@@ -15,13 +15,13 @@ use Rattle.model.specs.Talk.{steadily, Round, talk, Driven, started, Starts, la
 use Rattle.cases.specs.Planned.{planned}
 
 abbrev pub lent : List ℕ
-lent = replicate 300 0xEE
+lent = replicate 600 0xEE
 
 -- each reply is cut in two, behind its first byte, and around it come a pulse, a poll, a read that is refused, a request that is refused, an
 -- empty piece, and a byte too many
 abbrev pub company : ℕ → List Call
 company e =
-    pulse ∷ feed (0x00 ∷ []) lent ∷ poll lent ∷ read 258 lent ∷ request idn lent ∷ feed [] lent ∷ feed (0x01 ∷ e ∷ 0x55 ∷ []) lent ∷ pulse ∷ []
+    pulse ∷ feed (0x00 ∷ []) lent ∷ poll lent ∷ read 531 lent ∷ request idn lent ∷ feed [] lent ∷ feed (0x01 ∷ e ∷ 0x55 ∷ []) lent ∷ pulse ∷ []
 
 abbrev pub chip : ℕ → Bool
 chip level = leb level 0x5C

@@ -60,7 +60,7 @@ pub record GoesOn : Type 0 where
   -- between two pieces
   pub cut : (i : Interface) →
       map (λ (piece : List ℕ). after i (begun ++ feed piece room ∷ []) .session) ((0x00 ∷ []) ∷ (0x00 ∷ 0x01 ∷ []) ∷ [] ∷ []) ≡
-      running i (Waiting (at (toIdle 0xC3) Counting) 3) 1 0x00 ∷ running i (Waiting (at (toIdle 0xC3) Waking) 3) 1 0x00 ∷ running i (awaits 3) 1 0x00 ∷ []
+      running i (Waiting (at (toIdle 0xC3) (Counting 0x00)) 3) 1 0x00 ∷ running i (Waiting (at (toIdle 0xC3) Waking) 3) 1 0x00 ∷ running i (awaits 3) 1 0x00 ∷ []
 
 -- ---- how it ends
 

@@ -166,7 +166,8 @@ pub record Fields : Type 0 where
   pub payloads :
       map (λ (n : ℕ). allowed (sendRecv (replicate n 0xEE))) (0 ∷ 1 ∷ 254 ∷ 255 ∷ 256 ∷ 257 ∷ []) ≡ true ∷ true ∷ true ∷ true ∷ false ∷ false ∷ []
   pub no-fields : map allowed (idn ∷ echo ∷ idle distinct ∷ idle (levelled 0x04 0 0) ∷ []) ≡ true ∷ true ∷ true ∷ false ∷ []
-  pub reads : map (λ (n : ℕ). permitted Spi (read n)) (0 ∷ 1 ∷ 2 ∷ 256 ∷ 257 ∷ 258 ∷ []) ≡ false ∷ true ∷ true ∷ true ∷ true ∷ false ∷ []
+  pub reads : map (λ (n : ℕ). permitted Spi (read n)) (0 ∷ 1 ∷ 2 ∷ 257 ∷ 258 ∷ 529 ∷ 530 ∷ 531 ∷ []) ≡
+      false ∷ true ∷ true ∷ true ∷ true ∷ true ∷ true ∷ false ∷ []
   pub spi : map (permitted Spi) (reset ∷ poll ∷ send echo ∷ send (protocolSelect 5 (0x05 ∷ [])) ∷ []) ≡ true ∷ true ∷ true ∷ false ∷ []
   pub uart :
       map (permitted Uart) (reset ∷ poll ∷ read 1 ∷ send echo ∷ send (protocolSelect 5 (0x05 ∷ [])) ∷ []) ≡ false ∷ false ∷ false ∷ true ∷ false ∷ []

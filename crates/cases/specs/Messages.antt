@@ -1,6 +1,6 @@
 -- Document 003, chapters 3 and 4, and document 02, P1: the messages that the chapters print, written and read, and what is malformed beside them.
 -- Assumes nothing.
-use Prim.Native.Nat.{ℕ, zero, suc, _+_, _-_, _*_, _/_, _%_}
+use Prim.Native.Nat.{ℕ, suc, _+_, _-_, _*_, _/_}
 use mathlib.Core.Path.{_≡_}
 use mathlib.Core.Bool.{Bool, true, false}
 use mathlib.Core.List.{List, [], _∷_, _++_, map}
@@ -25,16 +25,11 @@ use Rattle.words.specs.Contract.{Ran}
 use Rattle.model.specs.Refusals.{Number, none, number, numberOf}
 use Rattle.model.specs.Frames.{part}
 use Rattle.model.specs.Messages.{messages, isBoardError, asking, answering, failing, writeCommand, writeAnswer, writeError, isFramed, isNumbered, readMessage, awaitedOf, byEnd, byVerdict, readAnswer, commandNumber, answerNumber}
-use Rattle.cases.specs.Awaiting.{toIdn, wrong}
+use Rattle.cases.specs.Awaiting.{counting, toIdn, wrong}
 use Rattle.cases.specs.Replies.{codes}
 use Rattle.cases.specs.Published.{ran}
 
 -- ---- words of these cases
-
--- so many bytes from one on, no two of 256 alike
-abbrev pub counting : ℕ → ℕ → List ℕ
-counting from zero = []
-counting from (suc n) = from % 256 ∷ counting (suc from) n
 
 -- an output of so many bytes: 90, 91, 92, ..
 abbrev pub room : ℕ → List ℕ

@@ -114,8 +114,8 @@ pub record Outputs : Type 0 where
   pub too-much : write Uart (send (sendRecv (replicate 256 0))) [] ≡ ran (Written.Refused Invalid) []
   pub one-to-read : write Spi (read 1) (9 ∷ 9 ∷ 9 ∷ []) ≡ ran (Sent 2) (0x02 ∷ 0x00 ∷ 9 ∷ [])
   pub none-to-read : write Spi (read 0) [] ≡ ran (Written.Refused Invalid) []
-  pub too-much-to-read : write Spi (read 258) [] ≡ ran (Written.Refused Invalid) []
-  pub most-to-read : write Spi (read 257) [] ≡ ran (Written.Refused Short) []
+  pub too-much-to-read : write Spi (read 531) [] ≡ ran (Written.Refused Invalid) []
+  pub most-to-read : write Spi (read 530) [] ≡ ran (Written.Refused Short) []
   pub uart-has-no-reset : write Uart reset (9 ∷ []) ≡ ran (Written.Refused Invalid) (9 ∷ [])
   pub uart-has-no-poll : write Uart poll (9 ∷ []) ≡ ran (Written.Refused Invalid) (9 ∷ [])
   pub uart-has-no-read : write Uart (read 1) (9 ∷ []) ≡ ran (Written.Refused Invalid) (9 ∷ [])

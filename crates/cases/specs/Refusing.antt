@@ -60,10 +60,10 @@ sleeps out =
     request (idle (levelled 0xDB 0x10 0x11)) (out 16) ∷ request (idle (levelled 0xDF 0x10 0x11)) (out 16) ∷ request (idle (levelled 0xDB 0x11 0x10)) (out 16) ∷
     calibrate (planned 3) (out 16) ∷ calibrate (planned 4) (out 16) ∷ next (out 16) ∷ []
 
--- reset, poll; a read of 0, of 1, of 257, of 258; an empty piece, and one of the byte 55
+-- reset, poll; a read of 0, of 1, of 530, of 531; an empty piece, and one of the byte 55
 abbrev pub transfers : (ℕ → List ℕ) → List ℕ → List Call
 transfers out lent =
-    reset (out 0) ∷ poll (out 1) ∷ read 0 (out 0) ∷ read 1 (out 1) ∷ read 257 (out 257) ∷ read 258 (out 258) ∷ feed [] lent ∷ feed (0x55 ∷ []) lent ∷ []
+    reset (out 0) ∷ poll (out 1) ∷ read 0 (out 0) ∷ read 1 (out 1) ∷ read 530 (out 530) ∷ read 531 (out 531) ∷ feed [] lent ∷ feed (0x55 ∷ []) lent ∷ []
 
 abbrev pub calls : (ℕ → List ℕ) → List ℕ → List Call
 calls out lent = requests out ++ tunes out ++ sleeps out ++ transfers out lent
@@ -82,7 +82,7 @@ short Spi n = replicate n 0xEE
 
 -- a room a byte too short
 abbrev pub narrow : List ℕ
-narrow = replicate 254 0xEE
+narrow = replicate 527 0xEE
 
 -- ---- the rows
 

@@ -182,9 +182,9 @@ pub record Pieces : Type 0 where
       fedWith (begun (toRead 0x69)) (0x00 ∷ 0x01 ∷ 0x5F ∷ 0x99 ∷ []) lent ≡
       fed lent (record { verdict = good; used = 3; place = Piece 2 1; progress = begun (toRead 0x69) })
   pub one :
-      fedWith (begun (toRead 0x69)) (0x00 ∷ []) lent ≡ fed lent (record { verdict = More; used = 1; place = Nowhere; progress = at (toRead 0x69) Counting })
+      fedWith (begun (toRead 0x69)) (0x00 ∷ []) lent ≡ fed lent (record { verdict = More; used = 1; place = Nowhere; progress = at (toRead 0x69) (Counting 0x00) })
   pub behind-one :
-      fedWith (at (toRead 0x69) Counting) (0x01 ∷ 0x23 ∷ 0x99 ∷ []) lent ≡
+      fedWith (at (toRead 0x69) (Counting 0x00)) (0x01 ∷ 0x23 ∷ 0x99 ∷ []) lent ≡
       fed lent (record { verdict = good; used = 2; place = Piece 1 1; progress = begun (toRead 0x69) })
   pub two :
       fedWith (begun (toRead 0x69)) (0x00 ∷ 0x01 ∷ []) lent ≡

@@ -71,7 +71,7 @@ Bad-replies =
 -- ---- pieces
 
 abbrev pub room : List ℕ
-room = replicate 255 0
+room = replicate 528 0
 
 -- the same room with some bytes at its front
 abbrev pub holding : ℕ → List ℕ → List ℕ
@@ -83,23 +83,23 @@ fed xs r = record { answer = r; bytes = xs }
 pub record Pieces : Type 0 where
   pub nothing : feed (begun toSend) [] [] ≡ fed [] (record { verdict = More; used = 0; place = Nowhere; progress = begun toSend })
   pub short-room :
-      feed (begun toEcho) (0x55 ∷ []) (replicate 254 0) ≡ fed (replicate 254 0) (record { verdict = NoRoom; used = 0; place = Nowhere; progress = begun toEcho })
+      feed (begun toEcho) (0x55 ∷ []) (replicate 527 0) ≡ fed (replicate 527 0) (record { verdict = NoRoom; used = 0; place = Nowhere; progress = begun toEcho })
   pub whole :
       feed (begun toSend) (0x80 ∷ 0x02 ∷ 0x55 ∷ 0x66 ∷ 0x99 ∷ []) room ≡
       fed room (record { verdict = good; used = 4; place = Piece 2 2; progress = begun toSend })
   pub without-data :
       feed (begun toSend) (0x80 ∷ 0x00 ∷ []) room ≡ fed room (record { verdict = good; used = 2; place = Nowhere; progress = begun toSend })
   pub one :
-      feed (begun toSend) (0x80 ∷ []) room ≡ fed room (record { verdict = More; used = 1; place = Nowhere; progress = at toSend Counting })
+      feed (begun toSend) (0x80 ∷ []) room ≡ fed room (record { verdict = More; used = 1; place = Nowhere; progress = at toSend (Counting 0x80) })
   pub two :
-      feed (at toSend Counting) (0x03 ∷ 0x55 ∷ []) room ≡
-      fed (holding 254 (0x55 ∷ [])) (record { verdict = More; used = 2; place = Nowhere; progress = at toSend (Data 1 3) })
+      feed (at toSend (Counting 0x80)) (0x03 ∷ 0x55 ∷ []) room ≡
+      fed (holding 527 (0x55 ∷ [])) (record { verdict = More; used = 2; place = Nowhere; progress = at toSend (Data 1 3) })
   pub three :
-      feed (at toSend (Data 1 3)) (0x66 ∷ []) (holding 254 (0x55 ∷ [])) ≡
-      fed (holding 253 (0x55 ∷ 0x66 ∷ [])) (record { verdict = More; used = 1; place = Nowhere; progress = at toSend (Data 2 3) })
+      feed (at toSend (Data 1 3)) (0x66 ∷ []) (holding 527 (0x55 ∷ [])) ≡
+      fed (holding 526 (0x55 ∷ 0x66 ∷ [])) (record { verdict = More; used = 1; place = Nowhere; progress = at toSend (Data 2 3) })
   pub four :
-      feed (at toSend (Data 2 3)) (0x77 ∷ 0x99 ∷ []) (holding 253 (0x55 ∷ 0x66 ∷ [])) ≡
-      fed (holding 252 (0x55 ∷ 0x66 ∷ 0x77 ∷ [])) (record { verdict = good; used = 1; place = Room 3; progress = begun toSend })
+      feed (at toSend (Data 2 3)) (0x77 ∷ 0x99 ∷ []) (holding 526 (0x55 ∷ 0x66 ∷ [])) ≡
+      fed (holding 525 (0x55 ∷ 0x66 ∷ 0x77 ∷ [])) (record { verdict = good; used = 1; place = Room 3; progress = begun toSend })
   -- all data in the piece just given
   pub late : feed (at toSend (Data 0 1)) (0x55 ∷ []) room ≡ fed room (record { verdict = good; used = 1; place = Piece 0 1; progress = begun toSend })
   pub event :
@@ -111,7 +111,7 @@ pub record Pieces : Type 0 where
   pub overfull :
       feed (at toSend (Data 4 3)) (0x07 ∷ 0x01 ∷ []) room ≡ fed room (record { verdict = wrong 6 0x07; used = 1; place = Nowhere; progress = begun toSend })
   pub counted-echo :
-      feed (at toEcho Counting) (0x00 ∷ 0x01 ∷ []) room ≡ fed room (record { verdict = wrong 1 0x00; used = 1; place = Nowhere; progress = begun toEcho })
+      feed (at toEcho (Counting 0x00)) (0x00 ∷ 0x01 ∷ []) room ≡ fed room (record { verdict = wrong 1 0x00; used = 1; place = Nowhere; progress = begun toEcho })
   pub strange :
       map (λ (a : Awaited). feed (at a Waking) (0x01 ∷ []) room .answer .verdict) (
       toIdn ∷ toSelect 1 ∷ toSend ∷ toRead 0x69 ∷ toWrite (index 0x00) ∷ toEcho ∷ []) ≡ replicate 6 (wrong 2 0x01)

@@ -45,12 +45,12 @@ fault state code used = left state (Refused (ChipError code)) used Nowhere
 abbrev pub bad : ℕ → Left
 bad used = left Lost (Refused Malformed) used Nowhere
 
--- a room of 16 different bytes, and 239 more
+-- a room of 16 different bytes, and 512 more
 abbrev pub front : List ℕ
 front = 0xE0 ∷ 0xE1 ∷ 0xE2 ∷ 0xE3 ∷ 0xE4 ∷ 0xE5 ∷ 0xE6 ∷ 0xE7 ∷ 0xE8 ∷ 0xE9 ∷ 0xEA ∷ 0xEB ∷ 0xEC ∷ 0xED ∷ 0xEE ∷ 0xEF ∷ []
 
 abbrev pub lent : List ℕ
-lent = front ++ replicate 239 0xDD
+lent = front ++ replicate 512 0xDD
 
 -- a command is sent after calls, and a piece comes; and the same with the piece cut behind its first k bytes
 abbrev pub whole : List Call → Command → List ℕ → Left
@@ -168,21 +168,21 @@ waits a phase selected used = left (Waiting (at a phase) selected) More used Now
 pub record Begun (before : List Call) (protocol : ℕ) : Type 0 where
   pub idn-begun :
       map (λ (k : ℕ). whole before idn (take k named)) (1 ∷ 2 ∷ 3 ∷ 16 ∷ []) ≡
-      waits toIdn Counting protocol 1 ∷ waits toIdn (Data 0 15) protocol 2 ∷ waits toIdn (Data 1 15) protocol 3 ∷ waits toIdn (Data 14 15) protocol 16 ∷ []
+      waits toIdn (Counting 0x00) protocol 1 ∷ waits toIdn (Data 0 15) protocol 2 ∷ waits toIdn (Data 1 15) protocol 3 ∷ waits toIdn (Data 14 15) protocol 16 ∷ []
   pub others-begun :
       whole before idn (0x8B ∷ []) ∷ whole before (protocolSelect 2 (0x05 ∷ [])) (0x00 ∷ []) ∷ whole before (protocolSelect 2 (0x05 ∷ [])) (0x8C ∷ []) ∷
       whole before sleep (0x00 ∷ []) ∷ whole before sleep (0x00 ∷ 0x01 ∷ []) ∷ whole before sleep (0x8D ∷ []) ∷
       whole before (rdReg 0x69) (0x00 ∷ []) ∷ whole before (rdReg 0x69) (0x00 ∷ 0x01 ∷ []) ∷ whole before (rdReg 0x62) (0x82 ∷ []) ∷
       whole before (wrReg (index 0x00)) (0x00 ∷ []) ∷ whole before (wrReg (window 0x01 0x58)) (0x86 ∷ []) ∷ [] ≡
-      waits toIdn (Failed 0x8B) protocol 1 ∷ waits (toSelect 2) Counting protocol 1 ∷ waits (toSelect 2) (Failed 0x8C) protocol 1 ∷
-      waits (toIdle 0xDB) Counting protocol 1 ∷ waits (toIdle 0xDB) Waking protocol 2 ∷ waits (toIdle 0xDB) (Failed 0x8D) protocol 1 ∷
-      waits (toRead 0x69) Counting protocol 1 ∷ waits (toRead 0x69) (Data 0 1) protocol 2 ∷ waits (toRead 0x62) (Failed 0x82) protocol 1 ∷
-      waits (toWrite (index 0x00)) Counting protocol 1 ∷ waits (toWrite (window 0x01 0x58)) (Failed 0x86) protocol 1 ∷ []
+      waits toIdn (Failed 0x8B) protocol 1 ∷ waits (toSelect 2) (Counting 0x00) protocol 1 ∷ waits (toSelect 2) (Failed 0x8C) protocol 1 ∷
+      waits (toIdle 0xDB) (Counting 0x00) protocol 1 ∷ waits (toIdle 0xDB) Waking protocol 2 ∷ waits (toIdle 0xDB) (Failed 0x8D) protocol 1 ∷
+      waits (toRead 0x69) (Counting 0x00) protocol 1 ∷ waits (toRead 0x69) (Data 0 1) protocol 2 ∷ waits (toRead 0x62) (Failed 0x82) protocol 1 ∷
+      waits (toWrite (index 0x00)) (Counting 0x00) protocol 1 ∷ waits (toWrite (window 0x01 0x58)) (Failed 0x86) protocol 1 ∷ []
 
 abbrev pub BegunSelected : Type 0
 BegunSelected =
     map (λ (k : ℕ). whole (selected 4) sends (take k three)) (1 ∷ 2 ∷ 3 ∷ 4 ∷ []) ≡
-    waits toSend Counting 4 1 ∷ waits toSend (Data 0 3) 4 2 ∷ waits toSend (Data 1 3) 4 3 ∷ waits toSend (Data 2 3) 4 4 ∷ []
+    waits toSend (Counting 0x80) 4 1 ∷ waits toSend (Data 0 3) 4 2 ∷ waits toSend (Data 1 3) 4 3 ∷ waits toSend (Data 2 3) 4 4 ∷ []
 
 abbrev pub EveryBeginning : Type 0
 EveryBeginning = Begun (pulse ∷ []) 0 × Begun (selected 3) 3 × BegunSelected
@@ -209,7 +209,7 @@ pub record Rooms : Type 0 where
       (0xC1 ∷ drop 1 lent) ∷ (0xC1 ∷ 0xC2 ∷ drop 2 lent) ∷ (0xC1 ∷ 0xC2 ∷ 0xC3 ∷ drop 3 lent) ∷ (0xC1 ∷ 0xC2 ∷ 0xC3 ∷ drop 3 lent) ∷ []
   pub front-of-idn :
       roomAfter 4 (pulse ∷ []) idn named ∷ roomAtEnd 4 (pulse ∷ []) idn named ∷ [] ≡
-      (0x31 ∷ 0x32 ∷ drop 2 lent) ∷ (fifteen ++ 0xEF ∷ replicate 239 0xDD) ∷ []
+      (0x31 ∷ 0x32 ∷ drop 2 lent) ∷ (fifteen ++ 0xEF ∷ replicate 512 0xDD) ∷ []
   -- a malformed piece writes nothing
   pub malformed :
       roomAtEnd 0 (selected 3) sends (pair 0x8E 0x01) ∷ roomAtEnd 1 (selected 3) sends (pair 0x8E 0x01) ∷ roomAtEnd 2 (selected 3) sleep (single 0x04) ∷ [] ≡

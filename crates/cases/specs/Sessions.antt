@@ -116,8 +116,8 @@ Feeds =
     answers Uart (
     -- what nobody asked for; an empty piece
     good ∷ (pulse ∷ good) ∷ (lost ++ good) ∷ (feed [] [] ∷ []) ∷
-    -- a room of 254 bytes, a good reply, the chip's error, a reply cut in two, a byte that no reply has
-    (pulse ∷ request idn room ∷ feed (0x00 ∷ []) (replicate 254 0x00) ∷ []) ∷ selected 1 ∷ (pulse ∷ selects 1 ++ error) ∷
+    -- a room of 527 bytes, a good reply, the chip's error, a reply cut in two, a byte that no reply has
+    (pulse ∷ request idn room ∷ feed (0x00 ∷ []) (replicate 527 0x00) ∷ []) ∷ selected 1 ∷ (pulse ∷ selects 1 ++ error) ∷
     (pulse ∷ selects 1 ++ feed (0x82 ∷ []) room ∷ []) ∷ (pulse ∷ selects 1 ++ feed (0x82 ∷ []) room ∷ feed (0x00 ∷ []) room ∷ []) ∷ lost ∷ [])
     ≡
     Refused Unawaited ∷ Refused Unawaited ∷ Refused Unawaited ∷ More ∷ Refused Short ∷ Good ∷ Refused (ChipError 0x82) ∷

@@ -71,7 +71,7 @@ tick = ofBits binary32 0x3D000000
 -- ---- a calibration over UART, with a chip that gives tag up to a level and timeout above it
 
 abbrev pub room : List ℕ
-room = replicate 255 0xEE
+room = replicate 528 0xEE
 
 -- each reply byte by byte
 abbrev pub singly : Bool → List (List ℕ)

@@ -104,7 +104,7 @@ answers c out =
     (PowerUp ∷ Ready ∷ Selected 3 ∷ Waiting (begun (idled 0x03)) 0 ∷ Lost ∷ [])
 
 abbrev buffer : List ℕ
-buffer = replicate 255 0x00
+buffer = replicate 528 0x00
 
 -- taken in Ready and Selected
 pub reads : answers (rdReg 0x62) buffer ≡ Refused Unready ∷ Sent 6 ∷ Sent 6 ∷ Refused Busy ∷ Refused Unready ∷ []

@@ -86,7 +86,7 @@ to-idle-by-all = refl
 -- ---- what calls answer in each state, over SPI
 
 abbrev buffer : List ℕ
-buffer = replicate 255 0x00
+buffer = replicate 528 0x00
 
 abbrev prescaled : ℕ → Plan
 prescaled p =
@@ -177,12 +177,12 @@ malformed = refl
 
 -- SendRecv with protocol 1 selected: 80 01 26 is good, 80 alone goes on, and 8D 00 is the error 8D (7)
 pub exchanged : map (λ xs. fed exchanging 1 Off xs .answer) ((0x80 ∷ 0x01 ∷ 0x26 ∷ []) ∷ (0x80 ∷ []) ∷ (0x8D ∷ 0x00 ∷ []) ∷ [])
-    ≡ left (Selected 1) Off Good 3 (Piece 2 1) ∷ left (Waiting (at exchanging Counting) 1) Off More 1 Nowhere
+    ≡ left (Selected 1) Off Good 3 (Piece 2 1) ∷ left (Waiting (at exchanging (Counting 0x80)) 1) Off More 1 Nowhere
     ∷ left (Selected 1) Off (Refused (ChipError 0x8D)) 2 Nowhere ∷ []
 exchanged = refl
 
 -- in the room the second of three data bytes stands behind the first
-pub behind : take 2 (step (made Spi (Waiting (at exchanging (Data 1 3)) 1) Off) (feed (0xBB ∷ []) (0xAA ∷ replicate 254 0x00)) .bytes) ≡ 0xAA ∷ 0xBB ∷ []
+pub behind : take 2 (step (made Spi (Waiting (at exchanging (Data 1 3)) 1) Off) (feed (0xBB ∷ []) (0xAA ∷ replicate 527 0x00)) .bytes) ≡ 0xAA ∷ 0xBB ∷ []
 behind = refl
 
 -- ---- calibration

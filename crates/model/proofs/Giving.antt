@@ -13,6 +13,7 @@ use Rattle.model.specs.declared.Search.{Search}
 use Rattle.model.specs.declared.Calibration.{Calibration}
 use Rattle.model.specs.declared.State.{State}
 use Rattle.model.specs.declared.Session.{Session}
+use Rattle.model.specs.Frames.{greatestRead}
 use Rattle.model.specs.Checks.{Passes}
 use Rattle.model.specs.Session.{made, checks, does, Call, reset, poll, read, calibrate, next, tests, continues, step}
 use Rattle.model.specs.Given.{GivesOut, trial, sent, tried, StartGives, NextGives, Transfers, OverSpi}
@@ -51,7 +52,7 @@ module _ (state : State) (c : Calibration) (out : List ℕ) where
         polls = λ h. done _ _ s out (poll out) (refl, (le-ltb (length out) 2 h, tt)) (record { answer = refl; output = refl });
         reads = λ n low high h.
             done _ _ s out (read n out) (
-              simp (le-leb 1 n low, le-leb n 257 high),
+              simp (le-leb 1 n low, le-leb n greatestRead high),
               (le-ltb (length out) (length (0x02 ∷ replicate {A = ℕ} n 0x00)) (omega (arith, h, length-replicate {A = ℕ} n 0x00)), tt),
             )
             (record { answer = refl; output = refl });

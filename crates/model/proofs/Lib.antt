@@ -1,3 +1,4 @@
+pub mod AtLengths
 pub mod AtMessages
 pub mod AtRegisters
 pub mod AtValues
@@ -7,6 +8,7 @@ pub mod Captures
 pub mod Machine
 pub mod Table
 pub mod Cutting
+pub mod Longest
 pub mod Refusing
 pub mod Idling
 pub mod Registers

@@ -36,7 +36,7 @@ use Rattle.model.specs.declared.AnswerRead.the-variants.{Carries, BoardE
 use Rattle.words.specs.Words.{pick, within}
 use Rattle.words.specs.Words.{Bytes as AllBytes}
 use Rattle.model.specs.Frames.{bare, framed, frame, part}
-use Rattle.model.specs.Replies.{isError, wakeOf, ReplyBy, Reply, formOf, exactly, counted, waking, single, error, reached, used, verdictOf, reply}
+use Rattle.model.specs.Replies.{isError, mostData, wakeOf, ReplyBy, Reply, formOf, exactly, counted, waking, single, error, reached, used, verdictOf, reply}
 use Rattle.model.specs.Frames.{row as commandRow}
 use Rattle.model.specs.Messages.{tagSize, mostTags, row, messages, foundIn, named, familyByte, isBoardError, takes, carries, payload, asking, answering, taken, readMessage, opened, readCarried, readError, readGood, readAnswer, CommandsBack, OnlyCommands, CommandsElse, awaitedOf, byVerdict, readReply, AnswersBack, ErrorsBack, ChipErrorsBack, IsAnswer, OnlyAnswers, AnswersElse, HandsOn, OfBytes, Orderly, InOrder, OneMessage}
 use Rattle.model.specs.Claims.{MeansBy}
@@ -44,7 +44,7 @@ use Rattle.words.proofs.Words.{ways}
 use Rattle.words.proofs.Contract.{one-answer, one-outcome}
 use Rattle.model.proofs.Frames.{both}
 use Rattle.model.proofs.Machine.{data-all}
-use Rattle.model.proofs.Table.{completes, tabled}
+use Rattle.model.proofs.Table.{Bounded, bounded, completes, tabled}
 
 -- ---- the table
 
@@ -196,12 +196,12 @@ carried-back m xs f h =
 -- ---- answers of the chip's own
 
 -- a good reply of n data bytes is read to its end
-whole-reply : (n : ℕ) (xs : List ℕ) → length xs ≡ n
+whole-reply : (n : ℕ) (xs : List ℕ) → length xs ≡ n → n ≤ mostData
     → (reached (Exactly n) (On Begun) (0x00 ∷ n ∷ xs) ≡ Over End.Good) × (used (Exactly n) (On Begun) (0x00 ∷ n ∷ xs) ≡ 2 + n)
-whole-reply n [] e =
+whole-reply n [] e few =
     subst (λ (k : ℕ). (reached (Exactly k) (On Begun) (0x00 ∷ k ∷ []) ≡ Over End.Good) × (used (Exactly k) (On Begun) (0x00 ∷ k ∷ []) ≡ 2 + k)) e (refl, refl)
-whole-reply n (x ∷ xs) e =
-    let all = data-all (Exactly n) 0 n (x ∷ xs) (omega arith) (omega arith) in
+whole-reply n (x ∷ xs) e few =
+    let all = data-all (Exactly n) 0 n (x ∷ xs) (omega arith) few (omega arith) in
     simp (eq-eqb n n refl, ne-eqb n 0 (omega arith)) (all .0, omega (arith, all .1))
 
 -- and so it is where a row hands it on
@@ -214,7 +214,7 @@ module _ (kind : Kind) (n : ℕ) (xs : List ℕ) (f : formOf (awaitedOf kind) �
 
   exact : by-form (Exactly n) ≡ Carries (part 2 n)
   exact =
-      let read = whole-reply n xs e in
+      let read = whole-reply n xs e (subst Bounded f (bounded (awaitedOf kind))) in
       let fills : used (Exactly n) (On Begun) whole ≡ length whole = omega (arith, read .1) in
       let behind : length whole - 2 ≡ n = omega arith in
       rw (read .0, eq-eqb (used (Exactly n) (On Begun) whole) (length whole) fills) (ap (λ (k : ℕ). Carries (part 2 k)) behind)
@@ -316,7 +316,7 @@ no-error-woken w code e = zero-one cc
 error-bytes : {f : Form} {ys : List ℕ} {e : End} {d : List ℕ} → ReplyBy f ys e d → (code : ℕ) → e ≡ End.Error code
     → (ys ≡ code ∷ 0x00 ∷ []) × (isError code ≡ true) × ReplyBy f ys (End.Error code) []
 error-bytes (exactly n d h) code q = absurd (no-error-good code q)
-error-bytes (counted n d h) code q = absurd (no-error-good code q)
+error-bytes (counted c b d r h few) code q = absurd (no-error-good code q)
 error-bytes (waking s e h) code q = absurd (no-error-woken (wakeOf e) code q)
 error-bytes single code q = absurd (no-error-good code q)
 error-bytes (error f c ne h) code q =
@@ -327,7 +327,7 @@ error-bytes (error f c ne h) code q =
 exact-bytes : {f : Form} {ys : List ℕ} {e : End} {d : List ℕ} → ReplyBy f ys e d → (n : ℕ) → f ≡ Exactly n → ((code : ℕ) → e ≡ End.Error code → ⊥)
     → (e ≡ End.Good) × (ds : List ℕ) × (ys ≡ 0x00 ∷ n ∷ ds) × (length ds ≡ n)
 exact-bytes (exactly k d h) n q no-error = let same : k ≡ n = cc in (refl, d, ap (λ (j : ℕ). 0x00 ∷ j ∷ d) same, h ∙ same)
-exact-bytes (counted k d h) n q no-error = absurd (zero-one cc)
+exact-bytes (counted c b d r h few) n q no-error = absurd (zero-one cc)
 exact-bytes (waking s e h) n q no-error = absurd (zero-one cc)
 exact-bytes single n q no-error = absurd (zero-one cc)
 exact-bytes (error f c ne h) n q no-error = absurd (no-error c refl)
@@ -430,7 +430,7 @@ chip-error code h = go (isBoardError code) refl
 
 module _ (kind : Kind) (code : ℕ) (xs : List ℕ) (r : Reply (awaitedOf kind) xs (End.Error code) []) where
   ended : reached (formOf (awaitedOf kind)) (On Begun) xs ≡ Over (End.Error code)
-  ended = ap (reached (formOf (awaitedOf kind)) (On Begun)) (sym (append-nil xs)) ∙ completes r []
+  ended = ap (reached (formOf (awaitedOf kind)) (On Begun)) (sym (append-nil xs)) ∙ completes (awaitedOf kind) r []
 
   pub reply-error : readReply kind xs ≡ ChipError code
   reply-error =

@@ -134,7 +134,7 @@ led-to : {chip : ℕ → End → Type 0} {x : Exchange} {r : Reached} {cs : List
     → reached (formOf (x .awaited)) (reading Begun) (x .bytes ++ allFed r cs) ≡ Over (q .end)
 led-to {x = x} {r} {cs} e q =
     ap (λ (ys : List ℕ). reached (formOf (x .awaited)) (reading Begun) (ys ++ allFed r cs)) e
-    ∙ ap (reached (formOf (x .awaited)) (reading Begun)) (q .whole) ∙ completes (q .well-formed) (q .after)
+    ∙ ap (reached (formOf (x .awaited)) (reading Begun)) (q .whole) ∙ completes (x .awaited) (q .well-formed) (q .after)
 
 in-by : (chip : ℕ → End → Type 0) {c : ℕ} (r : Reached) (cs : List Call) → Out c r → Answered chip r cs → In c (run r cs)
 in-by chip r cs o a =

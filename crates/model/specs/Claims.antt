@@ -10,7 +10,7 @@ use Rattle.model.specs.declared.Interface.{Interface}
 use Rattle.model.specs.declared.Refusal.{Refusal}
 use Rattle.model.specs.declared.Refusal.the-variants.{Invalid}
 use Rattle.model.specs.declared.Settings.{Settings}
-use Rattle.model.specs.declared.Kind.the-variants.{RdReg, WrReg}
+use Rattle.model.specs.declared.Kind.the-variants.{SendRecv, RdReg, WrReg}
 use Rattle.model.specs.declared.Frame.{Frame}
 use Rattle.model.specs.declared.Reading.{Reading}
 use Rattle.model.specs.declared.Reading.the-variants.{Taken}
@@ -22,6 +22,7 @@ use Rattle.model.specs.declared.End.{End}
 use Rattle.model.specs.declared.End.the-variants.{Good, Woken, Error, Malformed}
 use Rattle.model.specs.declared.Verdict.the-variants.{More, Ended, NoRoom}
 use Rattle.model.specs.declared.Place.{Place}
+use Rattle.model.specs.declared.Place.the-variants.{Nowhere, Piece, Room}
 use Rattle.model.specs.declared.Fed.{Fed}
 use Rattle.model.specs.declared.Plan.{Plan}
 use Rattle.model.specs.declared.Search.{Search}
@@ -31,7 +32,7 @@ use Rattle.model.specs.declared.Answer.{Answer}
 use Rattle.words.specs.Words.{among, Pastes, Bytes, concat}
 use Rattle.words.specs.Contract.{Ran, OneAnswer, OneOutcome}
 use Rattle.model.specs.Registers.{modulations, gains}
-use Rattle.model.specs.Frames.{Command, command, idleData, frame, allowed, wrapped, Transfer, write, readCommand, commandOf, Writes, Reads, ReadsFirst, Receives, Flagged, Gathers, Allows, Prescales}
+use Rattle.model.specs.Frames.{Command, command, idleData, frame, allowed, wrapped, greatestRead, Transfer, write, readCommand, commandOf, Writes, Reads, ReadsFirst, Receives, Flagged, Gathers, Allows, Prescales}
 use Rattle.model.specs.Replies.{leastRoom, Reply, Meaning, meaning, hasData, reply, begun, feed, dataOf, Feeds, Chooses}
 use Rattle.model.specs.Refusals.{number, bandNumber}
 use Rattle.model.specs.Calibration.{band, Sets, Hears, Guards}
@@ -181,6 +182,29 @@ TakesBy NoRoom piece room p m = (m .answer .used ≡ 0) × (m .answer .progress 
 
 abbrev pub Takes : Type 0
 Takes = (p : Progress) (piece room : List ℕ) → TakesBy (feed p piece room .answer .verdict) piece room p (feed p piece room)
+
+-- no reply has more data bytes than the least room holds, nor more bytes than the greatest read takes
+abbrev pub Longest : Type 0
+Longest = (a : Awaited) (xs : List ℕ) (e : End) (payload : List ℕ) → Reply a xs e payload → (length payload ≤ leastRoom) × (length xs ≤ greatestRead)
+
+-- to SendRecv one has as many, behind C0 10: in the least room, under any cutting, all its data are delivered
+abbrev pub Delivers : Type 0
+Delivers =
+    (first : ℕ) (payload room : List ℕ) → length payload ≡ leastRoom → length room ≡ leastRoom →
+    (pieces : List (List ℕ)) → concat pieces ≡ 0xC0 ∷ 0x10 ∷ payload →
+    feeds (begun (record { kind = SendRecv; first = first })) pieces room 0 ≡ meaning (Ended Good) payload greatestRead
+
+-- a place lies inside the buffer that it names
+abbrev pub Inside : Place → List ℕ → List ℕ → Type 0
+Inside Nowhere piece room = Unit {0}
+Inside (Piece start count) piece room = start + count ≤ length piece
+Inside (Room count) piece room = count ≤ length room
+
+-- no record, whether or not a call made it, reaches past the room: the room keeps its length, and data lie inside the piece or the room
+abbrev pub Reaches : Type 0
+Reaches =
+    (p : Progress) (piece room : List ℕ) →
+    (length (feed p piece room .bytes) ≡ length room) × Inside (feed p piece room .answer .place) piece (feed p piece room .bytes)
 
 -- ---- demand 2: waiting times
 

@@ -16,6 +16,7 @@ use Rattle.model.specs.declared.Session.{Session}
 use Rattle.model.specs.declared.Answer.{Answer}
 use Rattle.model.specs.declared.Outcome.{Outcome}
 use Rattle.words.specs.Contract.{Ran}
+use Rattle.model.specs.Frames.{greatestRead}
 use Rattle.model.specs.Replies.{begun}
 use Rattle.model.specs.Checks.{Passes}
 use Rattle.model.specs.Session.{protocolOf, outcome, checks, reset, poll, read, calibrate, next, step}
@@ -70,8 +71,8 @@ pub record Transfers (s : Session) (out : List ℕ) : Type 0 where
   pub resets : 1 ≤ length out → GivesOut (0x01 ∷ []) (record { interface = Spi; state = PowerUp; calibration = Off }) out (step s (reset out))
   -- 03 twice
   pub polls : 2 ≤ length out → GivesOut (0x03 ∷ 0x03 ∷ []) s out (step s (poll out))
-  -- 02 and n bytes 00
-  pub reads : (n : ℕ) → 1 ≤ n → n ≤ 257 → 1 + n ≤ length out → GivesOut (0x02 ∷ replicate n 0x00) s out (step s (read n out))
+  -- 02 and n bytes 00, from 1 to the greatest number
+  pub reads : (n : ℕ) → 1 ≤ n → n ≤ greatestRead → 1 + n ≤ length out → GivesOut (0x02 ∷ replicate n 0x00) s out (step s (read n out))
 
 abbrev pub OverSpi : Type 0
 OverSpi = (s : Session) (out : List ℕ) → s .interface ≡ Spi → Transfers s out

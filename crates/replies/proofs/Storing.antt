@@ -5,10 +5,10 @@ use native.Mathlib.Omega.{arith}
 use mathlib.Core.Path.{_≡_, refl, sym, ap, ap₂, _∙_, subst}
 use mathlib.Core.Bool.{Bool, true, false}
 use mathlib.Core.List.{List, [], _∷_, _++_}
-use lib.Dec.{ltb, eqb}
+use lib.Dec.{eqb}
 use lib.ListN.{length, take, drop}
 use lib.Seq.{paste, paste-zero, length-take-le, take-length}
-use borrow.Author.Tests.{ltb-true, ltb-false, lt-ltb, le-ltb}
+use borrow.Author.Tests.{lt-ltb, le-ltb}
 use Rattle.model.specs.declared.Awaited.{Awaited}
 use Rattle.model.specs.declared.Form.{Form}
 use Rattle.model.specs.declared.Phase.{Phase}
@@ -21,26 +21,10 @@ use Rattle.model.specs.declared.Step.the-variants.{On, Over}
 use Rattle.model.specs.declared.Verdict.the-variants.{More, NoRoom}
 use Rattle.model.specs.declared.Place.the-variants.{Nowhere}
 use Rattle.words.specs.Words.{pick, pasted}
-use Rattle.model.specs.Replies.{leastRoom, hasData, reached, used, have, ahead, with, fedBy, fedFrom, feed}
-use Rattle.model.proofs.Machine.{Deep, DeepAt, deep, All, stays, used-all, data-some, data-all}
+use Rattle.model.specs.Replies.{leastRoom, mostData, hasData, reached, used, have, ahead, with, fedBy, fedFrom, feed}
+use Rattle.model.proofs.Machine.{Deep, DeepAt, deep, depth, at-depth, All, used-all, last, Few, few}
 use Rattle.buffers.proofs.Pasting.{fits}
 use Rattle.replies.specs.Reading.{whole, kept}
-
--- ---- how many bytes of a reply come before a phase
-
-abbrev depth : Phase → ℕ
-depth Begun = 0
-depth (Failed code) = 1
-depth Counting = 1
-depth Waking = 2
-depth (Data h c) = h + 2
-
-at-depth : (p : Phase) → Deep p (depth p)
-at-depth Begun = record { had = refl; left = refl }
-at-depth (Failed code) = record { had = refl; left = refl }
-at-depth Counting = record { had = refl; left = refl }
-at-depth Waking = record { had = refl; left = refl }
-at-depth (Data h c) = record { had = omega arith; left = omega arith }
 
 -- behind data that stand in the room come data alone
 pub none-ahead : (p : Phase) → (have p ≡ 0 → ⊥) → ahead p ≡ 0
@@ -53,58 +37,46 @@ abbrev pub Writes : List ℕ → Phase → List ℕ → Step → ℕ → Type 0
 Writes room p xs s u =
     (kept s p ≤ have p → (a : Awaited) → room ≡ fedBy s a (have p) (u - ahead p) (drop (ahead p) xs) room (ahead p) u .bytes)
     × (have p < kept s p
-    → (have p + (u - ahead p) ≡ kept s p)
+    → (have p + (u - ahead p) ≡ kept s p) × (kept s p ≤ mostData)
     × ((a : Awaited) → paste room (have p) (drop (ahead p) xs) (u - ahead p) ≡ fedBy s a (have p) (u - ahead p) (drop (ahead p) xs) room (ahead p) u .bytes))
 
 module _ (f : Form) (room : List ℕ) where
+  -- as many as a reply has: some bytes were read
+  few-kept : (p q : Phase) (xs : List ℕ) → reached f (On p) xs ≡ On q → have p < have q → have q ≤ mostData
+  few-kept p q [] e lt = absurd (let same : p ≡ q = cc in omega (arith, ap have same))
+  few-kept p q (x ∷ xs) e lt = subst Few e (few f p x xs)
+
   writes-on : (p q : Phase) (xs : List ℕ) (u : ℕ) → reached f (On p) xs ≡ On q → used f (On p) xs ≡ u → Writes room p xs (On q) u
   writes-on p q xs u e n =
       let d = at-depth p in
       let all : u ≡ length xs = sym n ∙ subst (λ (s : Step). All s (used f (On p) xs) (length xs)) e (used-all f (On p) xs) in
       let now : Deep q (depth p + length xs) = subst (λ (s : Step). DeepAt s (depth p + length xs)) e (deep f (On p) (depth p) xs d) in
       let k : have q ≡ have p + (u - ahead p) = omega (arith, d .had, d .left, now .had) in
-      (λ le a. paste-zero room (have p) (drop (ahead p) xs) ∙ ap (paste room (have p) (drop (ahead p) xs)) {x = 0} {y = u - ahead p} (omega arith), λ lt. (sym k, λ a. refl))
-
-  -- the last data, or all
-  last : (h c : ℕ) (xs : List ℕ) (e : End) → hasData e ≡ true → reached f (On (Data h c)) xs ≡ Over e → (h < c) × (used f (On (Data h c)) xs ≡ c - h)
-  last h c [] e d o = absurd (let z : _≡_ {A = ℕ} 0 1 = cc in omega arith)
-  last h c (x ∷ xs) e d o = by (ltb h c) refl
-    where
-      -- fewer than are to come
-      few : (t : Bool) → ltb (length (x ∷ xs)) (c - h) ≡ t → h < c → (h < c) × (used f (On (Data h c)) (x ∷ xs) ≡ c - h)
-      few true l lt = absurd (let s = data-some f h c (x ∷ xs) (ltb-true (length (x ∷ xs)) (c - h) l) in let z : _≡_ {A = ℕ} 0 1 = cc in omega arith)
-      few false l lt = (lt, data-all f h c (x ∷ xs) lt (ltb-false (length (x ∷ xs)) (c - h) l) .1)
-
-      by : (t : Bool) → ltb h c ≡ t → (h < c) × (used f (On (Data h c)) (x ∷ xs) ≡ c - h)
-      by true l = few (ltb (length (x ∷ xs)) (c - h)) refl (ltb-true h c l)
-      by false l =
-          absurd (let s : reached f (On (Data h c)) (x ∷ xs) ≡ Over (Malformed (h + 2) x) = simp l (stays f (Malformed (h + 2) x) xs) in
-          let w : Malformed (h + 2) x ≡ e = cc in
-          let v : false ≡ true = ap hasData w ∙ d in let z : _≡_ {A = ℕ} 0 1 = cc in omega arith)
+      (λ le a. paste-zero room (have p) (drop (ahead p) xs) ∙ ap (paste room (have p) (drop (ahead p) xs)) {x = 0} {y = u - ahead p} (omega arith), λ lt. (sym k, few-kept p q xs e lt, λ a. refl))
 
   -- a reply with data is over
   abbrev Writes-data : Phase → List ℕ → ℕ → Type 0
   Writes-data p xs u =
       (whole p ≤ have p → room ≡ pick (eqb (have p) 0) room (paste room (have p) (drop (ahead p) xs) (u - ahead p)))
       × (have p < whole p
-      → (have p + (u - ahead p) ≡ whole p)
+      → (have p + (u - ahead p) ≡ whole p) × (whole p ≤ mostData)
       × (paste room (have p) (drop (ahead p) xs) (u - ahead p) ≡ pick (eqb (have p) 0) room (paste room (have p) (drop (ahead p) xs) (u - ahead p))))
 
   writes-data : (p : Phase) (xs : List ℕ) (u : ℕ) (e : End) → hasData e ≡ true → reached f (On p) xs ≡ Over e → used f (On p) xs ≡ u → Writes-data p xs u
   writes-data Begun xs u e d o n = (λ le. refl, λ lt. absurd (omega arith))
   writes-data (Failed code) xs u e d o n = (λ le. refl, λ lt. absurd (omega arith))
-  writes-data Counting xs u e d o n = (λ le. refl, λ lt. absurd (omega arith))
+  writes-data (Counting code) xs u e d o n = (λ le. refl, λ lt. absurd (omega arith))
   writes-data Waking xs u e d o n = (λ le. refl, λ lt. absurd (omega arith))
   writes-data (Data h c) xs u e d o n = by (eqb h 0) refl
     where
       by : (t : Bool) → eqb h 0 ≡ t → Writes-data (Data h c) xs u
       by true z = simp z (λ le. refl, λ lt. absurd (omega arith))
-      by false z = let m = last h c xs e d o in simp z (λ le. absurd (omega arith), λ lt. (omega arith, refl))
+      by false z = let m = last f h c xs e d o in simp z (λ le. absurd (omega (arith, m .0)), λ lt. (omega (arith, m .2), m .1, refl))
 
   pub writes : (p : Phase) (xs : List ℕ) (s : Step) (u : ℕ) → reached f (On p) xs ≡ s → used f (On p) xs ≡ u → Writes room p xs s u
   writes p xs (On q) u o n = writes-on p q xs u o n
-  writes p xs (Over Good) u o n = let m = writes-data p xs u Good refl o n in (λ le a. m .0 le, λ lt. (m .1 lt .0, λ a. m .1 lt .1))
-  writes p xs (Over (Woken w)) u o n = let m = writes-data p xs u (Woken w) refl o n in (λ le a. m .0 le, λ lt. (m .1 lt .0, λ a. m .1 lt .1))
+  writes p xs (Over Good) u o n = let m = writes-data p xs u Good refl o n in (λ le a. m .0 le, λ lt. (m .1 lt .0, m .1 lt .1, λ a. m .1 lt .2))
+  writes p xs (Over (Woken w)) u o n = let m = writes-data p xs u (Woken w) refl o n in (λ le a. m .0 le, λ lt. (m .1 lt .0, m .1 lt .1, λ a. m .1 lt .2))
   writes p xs (Over (Error code)) u o n = (λ le a. refl, λ lt. absurd (omega arith))
   writes p xs (Over (Malformed place b)) u o n = (λ le a. refl, λ lt. absurd (omega arith))
 

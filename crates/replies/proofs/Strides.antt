@@ -14,7 +14,7 @@ use Rattle.model.specs.declared.End.the-variants.{Good}
 use Rattle.model.specs.declared.Step.{Step}
 use Rattle.model.specs.declared.Step.the-variants.{On, Over}
 use Rattle.model.specs.declared.Walk.{Walk}
-use Rattle.model.specs.Replies.{next, reached, used, walked}
+use Rattle.model.specs.Replies.{mostData, next, reached, used, walked}
 use Rattle.model.proofs.Machine.{stays, no-more, reached-append, used-append, All, used-all, data-some, data-all}
 use Rattle.replies.specs.Reading.{Strides}
 
@@ -37,18 +37,18 @@ module _ (f : Form) where
 
   module _ (h c : ℕ) (xs : List ℕ) where
     -- fewer than are to come
-    pub stride-part : (r : Walk) → 0 < length xs → length xs < c - h → r .step ≡ On (Data (h + length xs) c) → r .used ≡ length xs → Strides f (Data h c) xs r
-    stride-part r some lt s n =
-        let e = data-some f h c xs lt in
+    pub stride-part : (r : Walk) → 0 < length xs → c ≤ mostData → length xs < c - h → r .step ≡ On (Data (h + length xs) c) → r .used ≡ length xs → Strides f (Data h c) xs r
+    stride-part r some few lt s n =
+        let e = data-some f h c xs few lt in
         strides (Data h c) xs r (On (Data (h + length xs) c)) (length xs) s n some (omega arith)
         (ap (walked f (On (Data h c))) (take-length xs)
         ∙ ap₂ walk e (subst (λ (t : Step). All t (used f (On (Data h c)) xs) (length xs)) e (used-all f (On (Data h c)) xs)))
 
     -- all
-    pub stride-all : (r : Walk) → h < c → c - h ≤ length xs → r .step ≡ Over Good → r .used ≡ c - h → Strides f (Data h c) xs r
-    stride-all r lt le s n =
+    pub stride-all : (r : Walk) → h < c → c ≤ mostData → c - h ≤ length xs → r .step ≡ Over Good → r .used ≡ c - h → Strides f (Data h c) xs r
+    stride-all r lt few le s n =
         let e = length-take-le (c - h) xs le in
-        let m = data-all f h c (take (c - h) xs) lt (omega arith) in
+        let m = data-all f h c (take (c - h) xs) lt few (omega arith) in
         strides (Data h c) xs r (Over Good) (c - h) s n (omega arith) le (ap₂ walk (m .0) (m .1))
 
 -- ---- what is left to do, at an index of the piece

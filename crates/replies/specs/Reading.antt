@@ -24,7 +24,7 @@ pub record Strides (f : Form) (p : Phase) (xs : List ℕ) (r : Walk) : Type 0 wh
 abbrev pub whole : Phase → ℕ
 whole Begun = 0
 whole (Failed code) = 0
-whole Counting = 0
+whole (Counting code) = 0
 whole Waking = 0
 whole (Data h c) = pick (eqb h 0) 0 c
 

@@ -6,7 +6,7 @@ use model::Refusal;
 use model::Written;
 
 // The greatest number of bytes that one read takes.
-pub const GREATEST_READ: usize = 257;
+pub const GREATEST_READ: usize = 530;
 
 pub fn reset(interface: Interface, out: &mut [u8]) -> Written
     ensures { λ r. ⌜ Writes interface Transfer.reset (now (out .entry)) r (now (out .exit)) ⌝ }

@@ -3,12 +3,16 @@ ghost use mathlib.Core.Path.{_≡_};
 ghost use mathlib.Core.Bool.{true};
 ghost use Rattle.model.specs.declared.Form.{Form};
 ghost use Rattle.model.specs.declared.Phase.the-variants.{Failed};
-ghost use Rattle.model.specs.Replies.{isError, isEvent, anyEvent, wakeOf, atFirst, counting, atSecond, atEvent, atData};
+ghost use Rattle.model.specs.declared.Form.the-variants.{Counted};
+ghost use Rattle.model.specs.Replies.{isError, isReceived, dataLength, isEvent, anyEvent, wakeOf, atFirst, counting, atSecond, atEvent, isToCome, atData};
 use model::End;
 use model::Form;
 use model::Phase;
 use model::Step;
 use model::Wake;
+
+// The most data bytes that a reply has.
+pub const MOST_DATA: u16 = 528;
 
 // No reply has the byte at this place.
 fn wrong(place: usize, byte: u8) -> Step
@@ -30,10 +34,10 @@ fn at_zero(form: Form) -> Step
 {
     let unknown = wrong(0, 0x00);
     match form {
-        Form::Exactly { count: _ } => Step::On(Phase::Counting),
+        Form::Exactly { count: _ } => Step::On(Phase::Counting { code: 0x00 }),
         Form::Counted => unknown,
         Form::Awake { source } => if any_event(source) {
-            Step::On(Phase::Counting)
+            Step::On(Phase::Counting { code: 0x00 })
         } else {
             unknown
         },
@@ -54,14 +58,15 @@ fn at_echo(form: Form) -> Step
     }
 }
 
-// 80 is the result code of SendRecv.
-fn at_received(form: Form) -> Step
-    ensures { λ r. ⌜ r ≡ atFirst form 0x80 ⌝ }
+// 80, A0 and C0 are the result codes of SendRecv.
+fn at_received(form: Form, code: u8) -> Step
+    requires { ⌜ isReceived code ≡ true ⌝ }
+    ensures { λ r. ⌜ r ≡ atFirst form code ⌝ }
 {
-    let unknown = wrong(0, 0x80);
+    let unknown = wrong(0, code);
     match form {
         Form::Exactly { count: _ } => unknown,
-        Form::Counted => Step::On(Phase::Counting),
+        Form::Counted => Step::On(Phase::Counting { code }),
         Form::Awake { source: _ } => unknown,
         Form::Single => unknown,
     }
@@ -88,9 +93,12 @@ fn first(form: Form, byte: u8) -> Step
     match byte {
         0x00 => at_zero(form),
         0x55 => at_echo(form),
-        0x80 => at_received(form),
+        0x80 | 0xA0 | 0xC0 => at_received(form, byte),
         0x82 | 0x83 | 0x85..=0x8F => at_error(form, byte),
-        0x01..=0x54 | 0x56..=0x7F | 0x81 | 0x84 | 0x90..=0xFF => wrong(0, byte),
+        0x01..=0x54 | 0x56..=0x7F | 0x81 | 0x84 | 0x90..=0x9F | 0xA1..=0xBF | 0xC1..=0xFF => wrong(
+            0,
+            byte,
+        ),
     }
 }
 
@@ -105,7 +113,7 @@ fn close(code: u8, byte: u8) -> Step
 }
 
 // So many data bytes are to come.
-fn counted(count: u8) -> Step
+fn counted(count: u16) -> Step
     ensures { λ r. ⌜ r ≡ counting count ⌝ }
 {
     if count == 0 {
@@ -114,18 +122,36 @@ fn counted(count: u8) -> Step
     Step::On(Phase::Data { have: 0, count })
 }
 
+// How many data bytes SendRecv's reply has: bits 9 and 8 of the number stand in bits 6 and 5 of the result code.
+fn data_length(code: u8, byte: u8) -> u16
+    ensures { λ r. ⌜ r ≡ dataLength code byte ⌝ }
+{
+    (code & 0x60) as u16 * 8 + byte as u16
+}
+
+// The byte behind a result code of SendRecv.
+fn received(code: u8, byte: u8) -> Step
+    ensures { λ r. ⌜ r ≡ atSecond Counted code byte ⌝ }
+{
+    let count = data_length(code, byte);
+    if MOST_DATA < count {
+        return wrong(1, byte);
+    }
+    counted(count)
+}
+
 // The byte behind a result code.
-fn second(form: Form, byte: u8) -> Step
-    ensures { λ r. ⌜ r ≡ atSecond form byte ⌝ }
+fn second(form: Form, code: u8, byte: u8) -> Step
+    ensures { λ r. ⌜ r ≡ atSecond form code byte ⌝ }
 {
     let malformed = wrong(1, byte);
     match form {
         Form::Exactly { count } => if byte == count {
-            counted(byte)
+            counted(byte as u16)
         } else {
             malformed
         },
-        Form::Counted => counted(byte),
+        Form::Counted => received(code, byte),
         Form::Awake { source: _ } => if byte == 0x01 {
             Step::On(Phase::Waking)
         } else {
@@ -179,20 +205,27 @@ fn event(form: Form, byte: u8) -> Step
     }
 }
 
-// A data byte, behind some. None to come is a record that no call made.
-fn data(have: u8, count: u8, byte: u8) -> Step
+// A data byte is to come, behind some: they are not all there, and no more than a reply has. All else is a record that no call made.
+pub fn is_to_come(have: u16, count: u16) -> bool
+    ensures { λ r. ⌜ r ≡ isToCome have count ⌝ }
+{
+    have < count && count <= MOST_DATA
+}
+
+// A data byte, behind some.
+fn data(have: u16, count: u16, byte: u8) -> Step
     ensures { λ r. ⌜ r ≡ atData have count byte ⌝ }
 {
-    if count <= have {
-        return wrong(have as usize + 2, byte);
+    if is_to_come(have, count) {
+        if have + 1 == count {
+            return Step::Over(End::Good);
+        }
+        return Step::On(Phase::Data {
+            have: have + 1,
+            count,
+        });
     }
-    if have + 1 == count {
-        return Step::Over(End::Good);
-    }
-    Step::On(Phase::Data {
-        have: have + 1,
-        count,
-    })
+    wrong(have as usize + 2, byte)
 }
 
 // Where a byte leads from a phase.
@@ -202,7 +235,7 @@ pub fn next(form: Form, phase: Phase, byte: u8) -> Step
     match phase {
         Phase::Begun => first(form, byte),
         Phase::Failed { code } => close(code, byte),
-        Phase::Counting => second(form, byte),
+        Phase::Counting { code } => second(form, code, byte),
         Phase::Waking => event(form, byte),
         Phase::Data { have, count } => data(have, count, byte),
     }

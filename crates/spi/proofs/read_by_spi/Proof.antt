@@ -9,13 +9,14 @@ use mathlib.Core.List.{List, _∷_, append-nil}
 use lib.ListN.{length, take, replicate, length-replicate}
 use denote.Ref.{now}
 use Rattle.words.specs.Contract.{Is}
+use Rattle.model.specs.Frames.{greatestRead}
 use Rattle.frames.specs.Putting.{put as putting}
 use Rattle.spi.proofs.Zeros.{zeros}
 use Rattle.spi.proofs.read_by_spi.Statement.{statement}
 use Rattle.spi.proofs.read_by_spi.Tie as tie
 
-counted : (n : ℕ) → n ≤ 257 → length (take {A = ℕ} n (replicate 257 0)) ≡ n
-counted n h = ap (λ (l : List ℕ). length l) (zeros n 257 h) ∙ length-replicate {A = ℕ} n 0
+counted : (n : ℕ) → n ≤ greatestRead → length (take {A = ℕ} n (replicate greatestRead 0)) ≡ n
+counted n h = ap (λ (l : List ℕ). length l) (zeros n greatestRead h) ∙ length-replicate {A = ℕ} n 0
 
 returns : tie.Need-returns
 returns c = simp (lt-leb 1 (c .before .before .args .n) (omega (arith, c .if1 .taken))) (record { answer = refl; bytes = refl })
@@ -23,7 +24,7 @@ returns c = simp (lt-leb 1 (c .before .before .args .n) (omega (arith, c .if1 .t
 returns-2 : tie.Need-returns-2
 returns-2 c =
     let n = c .before .before .before .args .n in
-    simp (le-leb 1 n (omega (arith, c .before .if1 .left)), lt-leb n 257 (omega (arith, c .if2 .taken))) (record { answer = refl; bytes = refl })
+    simp (le-leb 1 n (omega (arith, c .before .if1 .left)), lt-leb n greatestRead (omega (arith, c .if2 .taken))) (record { answer = refl; bytes = refl })
 
 slice-aggregate-put-2 : tie.Need-slice-aggregate-put-2
 slice-aggregate-put-2 c =
@@ -36,9 +37,9 @@ returns-3 c =
     let e = done .before .before .before .before .before in
     let n = e .before .before .before .args .n in
     let out = now (e .before .before .before .args .out) in
-    simp (le-leb 1 n (omega (arith, e .before .if1 .left)), le-leb n 257 (omega (arith, e .if2 .left)))
+    simp (le-leb 1 n (omega (arith, e .before .if1 .left)), le-leb n greatestRead (omega (arith, e .if2 .left)))
     (subst (λ (l : List ℕ). Is (putting (0x02 ∷ l) out) (done .put .result) (done .put .last .1 .1 .1 .0))
-    (append-nil (take n (replicate 257 0)) ∙ zeros n 257 (e .if2 .left)) (done .put .ensures))
+    (append-nil (take n (replicate greatestRead 0)) ∙ zeros n greatestRead (e .if2 .left)) (done .put .ensures))
 
 pub read-by-spi-spec : {M : Type 1} → statement M
 read-by-spi-spec =

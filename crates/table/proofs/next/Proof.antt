@@ -23,6 +23,6 @@ next-spec =
     (λ c κs. search needs)
     (λ c. simp (c .before .enum-told .given .1) (c .first .ensures))
     returns-2
-    (λ c. simp (c .before .enum-told2 .given .1) (c .second .ensures))
-    (λ c. simp (c .before .enum-told3 .given .1) (c .event .ensures))
-    (λ c. simp (c .before .before .phase2 .given .1) (c .«data» .ensures)))
+    (λ c. simp (c .before .before .phase2 .given .1) (c .second .ensures))
+    (λ c. simp (c .before .enum-told2 .given .1) (c .event .ensures))
+    (λ c. simp (c .before .before .phase3 .given .1) (c .«data» .ensures)))

@@ -40,7 +40,7 @@ second-spec =
     (λ c. search needs)
     returns
     returns-2
-    (λ c. simp (c .before .enum-told .given .1) (c .counted2 .ensures))
+    (λ c. simp (c .before .enum-told .given .1) (c .received .ensures))
     returns-4
     returns-5
     (λ c. simp (c .enum-told3 .given .1) (c .before .before .wrong .ensures)))

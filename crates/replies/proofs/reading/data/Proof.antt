@@ -12,13 +12,13 @@ returns : tie.Need-returns
 returns c form =
     let s = c .before in
     let a = s .args in
-    stride-all form (a .have) (a .count) (now (a .rest)) _ (s .pre .1) (omega (arith, c .if1 .taken)) refl refl
+    stride-all form (a .have) (a .count) (now (a .rest)) _ (s .pre .1 .0) (s .pre .1 .1) (omega (arith, c .if1 .taken)) refl refl
 
 returns-2 : tie.Need-returns-2
 returns-2 c form =
     let s = c .before in
     let a = s .args in
-    stride-part form (a .have) (a .count) (now (a .rest)) _ (s .pre .0) (omega (arith, c .if1 .left)) refl refl
+    stride-part form (a .have) (a .count) (now (a .rest)) _ (s .pre .0) (s .pre .1 .1) (omega (arith, c .if1 .left)) refl refl
 
 pub data-spec : {M : Type 1} → statement M
 data-spec =

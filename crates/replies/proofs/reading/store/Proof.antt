@@ -64,9 +64,9 @@ returns-2 c a =
     let put : copy .copy-at .last .1 .0 ≡ pasted room (take (u - start) (drop start piece)) (e .before .before .stored .result) = copy .copy-at .ensures in
     put
     ∙ ap₂ (λ (start h : ℕ). pasted room (take (u - start) (drop start piece)) h) (b .bytes-ahead .ensures) (e .before .before .stored .ensures)
-    ∙ copied room (drop (ahead phase) piece) (have phase) (u - ahead phase) (omega (arith, w .0, e .before .to-keep .ensures, e .before .to-keep .ok, s .pre .1))
+    ∙ copied room (drop (ahead phase) piece) (have phase) (u - ahead phase) (omega (arith, w .0, w .1, s .pre .1))
     (omega (arith, length-drop (ahead phase) piece, most s))
-    ∙ w .1 a
+    ∙ w .2 a
 
 pub store-spec : {M : Type 1} → statement M
 store-spec =
