@@ -5,7 +5,7 @@ use native.Mathlib.Omega.{arith}
 use mathlib.Core.Path.{_≡_, refl, sym, ap, ap₂, _∙_, subst}
 use mathlib.Core.Bool.{Bool, true, false}
 use mathlib.Core.List.{List, [], _∷_}
-use lib.Dec.{ltb, eqb}
+use lib.Dec.{ltb, leb→le, eqb}
 use lib.ListN.{length, take, drop, length-drop}
 use lib.Seq.{paste, length-paste, take-length}
 use borrow.Author.Tests.{ltb-false, eqb-false}
@@ -26,14 +26,14 @@ use Rattle.model.specs.Frames.{greatestRead}
 use Rattle.model.specs.Replies.{leastRoom, mostData, formOf, ReplyBy, exactly, counted, waking, single, error, reached, used, meaning, verdictOf, payloadOf, reply, hasData, have, ahead, over, with, fedBy}
 use Rattle.model.specs.Claims.{Longest, Delivers, Inside, Reaches}
 use Rattle.words.proofs.Words.{ways}
-use Rattle.model.proofs.Machine.{Deep, DeepAt, deep, depth, at-depth, All, used-all, used-most, data-all, few-in-all, Few, few}
-use Rattle.model.proofs.Table.{Bounded, bounded}
+use Rattle.model.proofs.Machine.{Bounded, Deep, DeepAt, deep, depth, at-depth, All, used-all, used-most, data-all, few-in-all, Few, few}
+use Rattle.model.proofs.Table.{bounded}
 use Rattle.model.proofs.Cutting.{cutting}
 
 -- ---- the greatest reply
 
 longest-by : {f : Form} {xs : List ℕ} {e : End} {payload : List ℕ} → Bounded f → ReplyBy f xs e payload → (length payload ≤ leastRoom) × (length xs ≤ greatestRead)
-longest-by m (exactly n d h) = (omega arith, omega arith)
+longest-by m (exactly n d h) = let few = leb→le n mostData m in (omega arith, omega arith)
 longest-by m (counted code b d r h few) = (few, omega arith)
 longest-by m (waking s e h) = (omega arith, omega arith)
 longest-by m single = (omega arith, omega arith)

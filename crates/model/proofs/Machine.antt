@@ -1,11 +1,11 @@
--- The laws of the machine that reads a reply: how a run over joined bytes goes, that an end stays, and how deep a phase is.
+-- The laws of the machine that reads a reply: how a run over joined bytes goes, that an end stays, how deep a phase is, and how many data it has.
 -- Assumes nothing.
 use Prim.Native.Nat.{ℕ, suc, _+_, _-_, _≤_, _<_}
 use native.Mathlib.Omega.{arith}
 use mathlib.Core.Path.{_≡_, refl, sym, ap, subst, _∙_}
 use mathlib.Core.Bool.{Bool, true, false, _&&_, true≢false}
 use mathlib.Core.List.{List, [], _∷_, _++_}
-use lib.Dec.{ltb, leb, eqb}
+use lib.Dec.{T, ltb, leb, eqb}
 use borrow.Author.Tests.{lt-ltb, ltb-true, ltb-false, le-leb, leb-true, ne-eqb, eqb-true, eqb-false}
 use lib.ListN.{length, take}
 use Rattle.model.specs.declared.Form.{Form}
@@ -45,6 +45,16 @@ at-depth Waking = record { had = refl; left = refl }
 at-depth (Data h c) = record { had = omega arith; left = omega arith }
 
 -- ---- data bytes that are to come
+
+-- a form that names no more of them than a reply has
+abbrev isBounded : Form → Bool
+isBounded (Exactly n) = leb n mostData
+isBounded Counted = true
+isBounded (Awake source) = true
+isBounded Single = true
+
+abbrev pub Bounded : Form → Type 0
+Bounded f = T (isBounded f)
 
 pub to-come : (h c : ℕ) → h < c → c ≤ mostData → isToCome h c ≡ true
 to-come h c lt few = simp (lt-ltb h c lt, le-leb c mostData few)

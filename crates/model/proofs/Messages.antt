@@ -5,7 +5,7 @@ use native.Mathlib.Omega.{arith}
 use mathlib.Core.Path.{_≡_, refl, sym, ap, ap₂, _∙_, subst}
 use mathlib.Core.Bool.{Bool, true, false, _&&_, and-false, true≢false}
 use mathlib.Core.List.{List, [], _∷_, _++_, append-nil}
-use lib.Dec.{ltb, leb, eqb}
+use lib.Dec.{ltb, leb, leb→le, eqb}
 use lib.ListN.{length, take, getD, length-append}
 use lib.Seq.{take-length}
 use borrow.Author.Tests.{eq-eqb, ne-eqb, eqb-true, leb-true, leb-false, lt-leb, ltb-true, ltb-false}
@@ -43,8 +43,8 @@ use Rattle.model.specs.Claims.{MeansBy}
 use Rattle.words.proofs.Words.{ways}
 use Rattle.words.proofs.Contract.{one-answer, one-outcome}
 use Rattle.model.proofs.Frames.{both}
-use Rattle.model.proofs.Machine.{data-all}
-use Rattle.model.proofs.Table.{Bounded, bounded, completes, tabled}
+use Rattle.model.proofs.Machine.{Bounded, data-all}
+use Rattle.model.proofs.Table.{bounded, completes, tabled}
 
 -- ---- the table
 
@@ -214,7 +214,7 @@ module _ (kind : Kind) (n : ℕ) (xs : List ℕ) (f : formOf (awaitedOf kind) �
 
   exact : by-form (Exactly n) ≡ Carries (part 2 n)
   exact =
-      let read = whole-reply n xs e (subst Bounded f (bounded (awaitedOf kind))) in
+      let read = whole-reply n xs e (leb→le n mostData (subst Bounded f (bounded (awaitedOf kind)))) in
       let fills : used (Exactly n) (On Begun) whole ≡ length whole = omega (arith, read .1) in
       let behind : length whole - 2 ≡ n = omega arith in
       rw (read .0, eq-eqb (used (Exactly n) (On Begun) whole) (length whole) fills) (ap (λ (k : ℕ). Carries (part 2 k)) behind)
