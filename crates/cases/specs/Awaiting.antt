@@ -21,9 +21,9 @@ use Rattle.model.specs.Frames.{commandOf as namedBy}
 use Rattle.model.specs.Session.{awaitedOf}
 
 -- so many bytes from one on, no two of 256 alike
-abbrev pub counting : ℕ → ℕ → List ℕ
-counting from zero = []
-counting from (suc n) = from % 256 ∷ counting (suc from) n
+abbrev pub ascending : ℕ → ℕ → List ℕ
+ascending from zero = []
+ascending from (suc n) = from % 256 ∷ ascending (suc from) n
 
 -- ---- what WrReg is given
 

@@ -11,7 +11,7 @@ use Rattle.model.specs.declared.Verdict.the-variants.{More}
 use Rattle.model.specs.declared.Wake.the-variants.{Timeout, Tag, IrqIn, SpiSs}
 use Rattle.model.specs.Replies.{wakeOf, Reply, meaning, reply}
 use Rattle.words.specs.Words.{those}
-use Rattle.cases.specs.Awaiting.{counting, index, window, toIdn, toSelect, toSend, toIdle, toRead, toWrite, toEcho, good, failed, wakeBy, waking, isMalformed}
+use Rattle.cases.specs.Awaiting.{ascending, index, window, toIdn, toSelect, toSend, toIdle, toRead, toWrite, toEcho, good, failed, wakeBy, waking, isMalformed}
 use Rattle.cases.specs.Replies.{codes, bad, AllBad}
 
 -- ---- every byte at each place
@@ -69,8 +69,8 @@ pub record Related : Type 0 where
   pub to-idn : Reply toIdn (0x00 ∷ 0x0F ∷ fifteen) Good fifteen
   pub to-select : Reply (toSelect 3) (0x00 ∷ 0x00 ∷ []) Good []
   pub to-send : Reply toSend (0x80 ∷ 0x03 ∷ 0xC1 ∷ 0xC2 ∷ 0xC3 ∷ []) Good (0xC1 ∷ 0xC2 ∷ 0xC3 ∷ [])
-  pub to-send-long : Reply toSend (0xA0 ∷ 0x01 ∷ counting 0x31 257) Good (counting 0x31 257)
-  pub to-send-longest : Reply toSend (0xC0 ∷ 0x10 ∷ counting 0x31 528) Good (counting 0x31 528)
+  pub to-send-long : Reply toSend (0xA0 ∷ 0x01 ∷ ascending 0x31 257) Good (ascending 0x31 257)
+  pub to-send-longest : Reply toSend (0xC0 ∷ 0x10 ∷ ascending 0x31 528) Good (ascending 0x31 528)
   pub to-idle : Reply (toIdle 0xDB) (0x00 ∷ 0x01 ∷ 0x08 ∷ []) (Woken (wakeBy 0x08)) (0x08 ∷ [])
   pub to-read : Reply (toRead 0x69) (0x00 ∷ 0x01 ∷ 0x5F ∷ []) Good (0x5F ∷ [])
   pub to-write : Reply (toWrite (window 0x01 0x58)) (0x00 ∷ 0x00 ∷ []) Good []

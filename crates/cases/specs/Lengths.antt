@@ -15,7 +15,7 @@ use Rattle.model.specs.declared.Answer.the-variants.{Good}
 use Rattle.words.specs.Words.{those}
 use Rattle.model.specs.Replies.{isReceived, dataLength, Meaning, meaning, reply, at, begun, feed}
 use Rattle.model.specs.Claims.{feeds}
-use Rattle.cases.specs.Awaiting.{counting, index, toIdn, toSelect, toSend, toIdle, toRead, toWrite, toEcho, good, wrong}
+use Rattle.cases.specs.Awaiting.{ascending, index, toIdn, toSelect, toSend, toIdle, toRead, toWrite, toEcho, good, wrong}
 use Rattle.cases.specs.Sessions.{selected}
 use Rattle.cases.specs.Replies.{bad, AllBad, fed}
 use Rattle.cases.specs.Replying.{left, waits, lent, sends, whole, cut, roomAfter, roomAtEnd}
@@ -41,18 +41,18 @@ abbrev pub lengths : List Length
 lengths = table8 ++ by 0xC0 0x10 528 ∷ []
 
 -- the data, no two of 256 alike; the reply; and the reply with what follows it
-abbrev pub dataOf : Length → List ℕ
-dataOf l = counting 0x31 (l .number)
+abbrev pub carried : Length → List ℕ
+carried l = ascending 0x31 (l .number)
 
 abbrev pub replyOf : Length → List ℕ
-replyOf l = l .code ∷ l .byte ∷ dataOf l
+replyOf l = l .code ∷ l .byte ∷ carried l
 
 abbrev pub followed : Length → List ℕ
 followed l = replyOf l ++ 0x99 ∷ 0x98 ∷ []
 
 -- what each means: all its data
 abbrev pub delivered : Length → Meaning
-delivered l = meaning good (dataOf l) (2 + l .number)
+delivered l = meaning good (carried l) (2 + l .number)
 
 pub record Lengths : Type 0 where
   pub told : map (λ (l : Length). dataLength (l .code) (l .byte)) lengths ≡ map (λ (l : Length). l .number) lengths
@@ -130,9 +130,9 @@ pub record Rooms : Type 0 where
   pub untouched : map (λ (k : ℕ). roomAtEnd k (selected 3) sends (followed (by 0xC0 0x10 528))) (0 ∷ 1 ∷ 2 ∷ []) ≡ replicate 3 lent
   pub front :
       map (λ (k : ℕ). roomAfter k (selected 3) sends (followed (by 0xC0 0x10 528))) (3 ∷ 258 ∷ 529 ∷ []) ≡
-      (0x31 ∷ drop 1 lent) ∷ (counting 0x31 256 ++ drop 256 lent) ∷ (counting 0x31 527 ++ 0xDD ∷ []) ∷ []
-  pub filled : map (λ (k : ℕ). roomAtEnd k (selected 3) sends (followed (by 0xC0 0x10 528))) (3 ∷ 258 ∷ 529 ∷ []) ≡ replicate 3 (counting 0x31 528)
-  pub kept : roomAtEnd 258 (selected 3) sends (followed (by 0xA0 0x01 257)) ≡ counting 0x31 257 ++ replicate 271 0xDD
+      (0x31 ∷ drop 1 lent) ∷ (ascending 0x31 256 ++ drop 256 lent) ∷ (ascending 0x31 527 ++ 0xDD ∷ []) ∷ []
+  pub filled : map (λ (k : ℕ). roomAtEnd k (selected 3) sends (followed (by 0xC0 0x10 528))) (3 ∷ 258 ∷ 529 ∷ []) ≡ replicate 3 (ascending 0x31 528)
+  pub kept : roomAtEnd 258 (selected 3) sends (followed (by 0xA0 0x01 257)) ≡ ascending 0x31 257 ++ replicate 271 0xDD
   -- 528 for every awaited command: the byte is told malformed only where the room is that long
   pub least :
       map (λ (a : Awaited). map (λ (n : ℕ). feed (begun a) (0x54 ∷ []) (replicate n 0xDD) .answer .verdict) (0 ∷ 255 ∷ 527 ∷ 528 ∷ [])) (

@@ -25,7 +25,7 @@ use Rattle.words.specs.Contract.{Ran}
 use Rattle.model.specs.Refusals.{Number, none, number, numberOf}
 use Rattle.model.specs.Frames.{part}
 use Rattle.model.specs.Messages.{messages, isBoardError, asking, answering, failing, writeCommand, writeAnswer, writeError, isFramed, isNumbered, readMessage, awaitedOf, byEnd, byVerdict, readAnswer, commandNumber, answerNumber}
-use Rattle.cases.specs.Awaiting.{counting, toIdn, wrong}
+use Rattle.cases.specs.Awaiting.{ascending, toIdn, wrong}
 use Rattle.cases.specs.Replies.{codes}
 use Rattle.cases.specs.Published.{ran}
 
@@ -33,7 +33,7 @@ use Rattle.cases.specs.Published.{ran}
 
 -- an output of so many bytes: 90, 91, 92, ..
 abbrev pub room : ℕ → List ℕ
-room n = counting 0x90 n
+room n = ascending 0x90 n
 
 -- another byte at an index
 abbrev pub altered : ℕ → ℕ → List ℕ → List ℕ
@@ -139,7 +139,7 @@ outcomes write p = map (write (p .message) (p .payload)) (room 32 ∷ room (size
 -- as they are to be: what stands behind the message stays, and a refusal writes nothing
 abbrev pub right : Printed → List (Ran Written)
 right p =
-    ran (Sent (size p)) (p .bytes ++ counting (0x90 + size p) (32 - size p)) ∷ ran (Sent (size p)) (p .bytes) ∷
+    ran (Sent (size p)) (p .bytes ++ ascending (0x90 + size p) (32 - size p)) ∷ ran (Sent (size p)) (p .bytes) ∷
     ran (Written.Refused Short) (room (size p - 1)) ∷ []
 
 pub record AsPrinted : Type 0 where
@@ -209,7 +209,7 @@ codesTaken family rest = those (λ (code : ℕ). isTaken (readMessage (family �
 
 -- none, one, two, three and 14 data bytes behind their count
 abbrev pub counted : List (List ℕ)
-counted = map (λ (n : ℕ). n ∷ counting 0x26 n) (0 ∷ 1 ∷ 2 ∷ 3 ∷ 14 ∷ [])
+counted = map (λ (n : ℕ). n ∷ ascending 0x26 n) (0 ∷ 1 ∷ 2 ∷ 3 ∷ 14 ∷ [])
 
 -- one family, one count and the codes of the table, of all 256 each
 pub record BesideCommands : Type 0 where
@@ -219,8 +219,8 @@ pub record BesideCommands : Type 0 where
   pub board-codes : map (codesTaken 0x02) counted ≡ (0xA2 ∷ 0xA4 ∷ 0xBC ∷ []) ∷ (0xA1 ∷ []) ∷ (0xA3 ∷ []) ∷ [] ∷ [] ∷ []
   pub exchanged : map readMessage ((0x01 ∷ 0xBC ∷ 0x00 ∷ []) ∷ (0x02 ∷ 0x01 ∷ 0x00 ∷ []) ∷ []) ≡ replicate 2 CommandRead.Malformed
   -- request flags, DacDataL and DacDataH are not checked; to the others it is a byte left over
-  pub fourths : takenAt 3 ≡ [] ∷ [] ∷ counting 0 256 ∷ counting 0 256 ∷ [] ∷ [] ∷ []
-  pub fifths : takenAt 4 ≡ [] ∷ [] ∷ [] ∷ counting 0 256 ∷ [] ∷ [] ∷ []
+  pub fourths : takenAt 3 ≡ [] ∷ [] ∷ ascending 0 256 ∷ ascending 0 256 ∷ [] ∷ [] ∷ []
+  pub fifths : takenAt 4 ≡ [] ∷ [] ∷ [] ∷ ascending 0 256 ∷ [] ∷ [] ∷ []
   -- of a message and seven bytes more, only its own bytes are one
   pub lengths :
       map (λ (p : Printed). those (λ (n : ℕ). isTaken (readMessage (take n (p .bytes ++ room 7)))) 11 []) commands ≡
@@ -280,14 +280,14 @@ pub record BesideAnswers : Type 0 where
   pub counts : goodAt 1 ≡ (0x0F ∷ []) ∷ (0x03 ∷ []) ∷ (0x1C ∷ []) ∷ (0x00 ∷ []) ∷ (0x01 ∷ []) ∷ (0x01 ∷ []) ∷ (0x02 ∷ []) ∷ []
   -- the number of tags, and the level of IRQ_OUT, 00 or 01; the rest is not checked
   pub thirds :
-      goodAt 2 ≡ counting 0 256 ∷ counting 0 256 ∷ (0x03 ∷ []) ∷ [] ∷ (0x00 ∷ 0x01 ∷ []) ∷ (0x00 ∷ 0x01 ∷ []) ∷ counting 0 256 ∷ []
+      goodAt 2 ≡ ascending 0 256 ∷ ascending 0 256 ∷ (0x03 ∷ []) ∷ [] ∷ (0x00 ∷ 0x01 ∷ []) ∷ (0x00 ∷ 0x01 ∷ []) ∷ ascending 0 256 ∷ []
   -- of an answer and seven bytes more, only its own bytes are one
   pub lengths :
       map (λ (p : Printed). those (λ (n : ℕ). isGood (readAnswer (p .message) (take n (p .bytes ++ room 7)))) 38 []) answers ≡
       (17 ∷ []) ∷ (5 ∷ []) ∷ (30 ∷ []) ∷ (2 ∷ []) ∷ (3 ∷ []) ∷ (3 ∷ []) ∷ (4 ∷ []) ∷ []
   -- count and data of a name agree on 14 and on 16; a byte is left over
   pub names :
-      map (readAnswer Idn) ((0x00 ∷ 0x0E ∷ counting 0x31 14) ∷ (0x00 ∷ 0x10 ∷ counting 0x31 16) ∷ (0x00 ∷ 0x0F ∷ counting 0x31 16) ∷ []) ≡
+      map (readAnswer Idn) ((0x00 ∷ 0x0E ∷ ascending 0x31 14) ∷ (0x00 ∷ 0x10 ∷ ascending 0x31 16) ∷ (0x00 ∷ 0x0F ∷ ascending 0x31 16) ∷ []) ≡
       replicate 3 AnswerRead.Malformed
   -- the answer to one command as that to another: 80 01 00 is an inventory of no tags too
   pub each-to-its-own :
@@ -300,7 +300,7 @@ pub record BesideAnswers : Type 0 where
 
 -- how many data bytes a writer takes, of those below 30
 abbrev pub sizes : (Message → List ℕ → List ℕ → Ran Written) → List (List ℕ)
-sizes write = map (λ (p : Printed). those (λ (n : ℕ). isSent (write (p .message) (counting 0 n) (room 32) .answer)) 30 []) commands
+sizes write = map (λ (p : Printed). those (λ (n : ℕ). isSent (write (p .message) (ascending 0 n) (room 32) .answer)) 30 []) commands
 
 -- the number of data bytes of each command and of each answer, and the two levels of IRQ_OUT
 pub record Carried : Type 0 where
@@ -312,7 +312,7 @@ pub record Carried : Type 0 where
 
 -- k tags: all bytes of up to 28 differ
 abbrev pub tags : ℕ → List ℕ
-tags k = counting 0 (9 * k)
+tags k = ascending 0 (9 * k)
 
 -- none, one, three and 28: the count is 1 + 9 times the number
 abbrev pub numbers : List ℕ
@@ -326,18 +326,18 @@ pub record Inventoried : Type 0 where
   -- what stands behind the tags stays
   pub whole :
       map (λ (k : ℕ). writeAnswer Inventory (tags k) (room 256)) (0 ∷ 1 ∷ 28 ∷ []) ≡
-      ran (Sent 3) (0x80 ∷ 0x01 ∷ 0x00 ∷ counting 0x93 253) ∷ ran (Sent 12) (0x80 ∷ 0x0A ∷ 0x01 ∷ tags 1 ++ counting 0x9C 244) ∷
+      ran (Sent 3) (0x80 ∷ 0x01 ∷ 0x00 ∷ ascending 0x93 253) ∷ ran (Sent 12) (0x80 ∷ 0x0A ∷ 0x01 ∷ tags 1 ++ ascending 0x9C 244) ∷
       ran (Sent 255) (0x80 ∷ 0xFD ∷ 0x1C ∷ tags 28 ++ 0x8F ∷ []) ∷ []
   pub read :
       map (readAnswer Inventory) inventories ≡ Carries (part 3 0) ∷ Carries (part 3 9) ∷ Carries (part 3 27) ∷ Carries (part 3 252) ∷ []
   pub back : map (λ (xs : List ℕ). carriedIn xs (readAnswer Inventory xs)) inventories ≡ map tags numbers
   -- 29 tags, and a number of bytes that is none of tags
   pub invalid :
-      map (λ (n : ℕ). writeAnswer Inventory (counting 0 n) (room 300)) (261 ∷ 1 ∷ 8 ∷ 10 ∷ 251 ∷ 253 ∷ []) ≡
+      map (λ (n : ℕ). writeAnswer Inventory (ascending 0 n) (room 300)) (261 ∷ 1 ∷ 8 ∷ 10 ∷ 251 ∷ 253 ∷ []) ≡
       replicate 6 (ran (Written.Refused Invalid) (room 300))
   -- what is not to be written is told before an output that is too short
   pub order :
-      map (λ (n : ℕ). writeAnswer Inventory (counting 0 n) []) (261 ∷ 8 ∷ 252 ∷ 0 ∷ []) ≡
+      map (λ (n : ℕ). writeAnswer Inventory (ascending 0 n) []) (261 ∷ 8 ∷ 252 ∷ 0 ∷ []) ≡
       map (λ (k : Refusal). ran (Written.Refused k) []) (Invalid ∷ Invalid ∷ Short ∷ Short ∷ [])
   -- a count that is 9 times the number; a number that is one less, and one more, than the tags
   pub miscounted :
@@ -347,7 +347,7 @@ pub record Inventoried : Type 0 where
       ≡ replicate 7 AnswerRead.Malformed
   -- count and number as the bytes have them: tags are whole, and at most 28
   pub whole-tags :
-      those (λ (n : ℕ). isGood (readAnswer Inventory (0x80 ∷ suc n ∷ (n / 9) ∷ counting 0 n))) 275 [] ≡ map (λ (k : ℕ). 9 * k) (counting 0 29)
+      those (λ (n : ℕ). isGood (readAnswer Inventory (0x80 ∷ suc n ∷ (n / 9) ∷ ascending 0 n))) 275 [] ≡ map (λ (k : ℕ). 9 * k) (ascending 0 29)
   -- 29 tags with what a byte keeps of their count
   pub wrapped : readAnswer Inventory (0x80 ∷ 0x06 ∷ 0x1D ∷ tags 29) ≡ AnswerRead.Malformed
 

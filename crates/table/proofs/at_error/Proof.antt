@@ -1,32 +1,20 @@
 -- `table::at_error` meets its contract: an arm for each form.
 -- Assumes nothing.
 use borrow.Author.Needs.{needs}
-use Prim.Native.Nat.{ℕ}
-use mathlib.Core.Path.{_≡_, refl}
-use mathlib.Core.Bool.{false}
+use mathlib.Core.Path.{_≡_, refl, sym}
 use borrow.Author.Tests.{ne-eqb}
-use Rattle.model.specs.Replies.{isError}
-use Rattle.model.proofs.Table.{no-error}
-use Rattle.table.proofs.Codes.{received-not}
+use Rattle.model.specs.declared.Form.{Form}
+use Rattle.model.specs.declared.Form.the-variants.{Exactly, Counted, Awake}
+use Rattle.model.specs.declared.Phase.the-variants.{Failed}
+use Rattle.model.specs.declared.Step.the-variants.{On}
+use Rattle.model.specs.Replies.{wrong, atFirst}
+use Rattle.model.proofs.Table.{no-error, first-error, not-echo}
 use Rattle.table.proofs.at_error.Statement.{statement}
 use Rattle.table.proofs.at_error.Tie as tie
 
-returns : tie.Need-returns
-returns c =
-    let s = c .before .before in
-    simp (c .enum-told .given .1, ne-eqb (s .args .code) 0x00 (no-error (s .args .code) 0x00 (s .pre) refl), s .pre)
-
-returns-2 : tie.Need-returns-2
-returns-2 c =
-    let s = c .before .before in
-    let code = s .args .code in
-    let none : (k : ℕ) → isError k ≡ false → code ≡ k → ⊥ = λ k. no-error code k (s .pre) in
-    simp (c .enum-told2 .given .1, received-not code (none 0x80 refl) (none 0xA0 refl) (none 0xC0 refl), s .pre)
-
-returns-3 : tie.Need-returns-3
-returns-3 c =
-    let s = c .before .before in
-    simp (c .enum-told3 .given .1, ne-eqb (s .args .code) 0x00 (no-error (s .args .code) 0x00 (s .pre) refl), s .pre)
+-- a form other than Echo's
+failed : (f : Form) (c : tie.Start) → atFirst f 0x55 ≡ wrong 0 0x55 → On (Failed (c .args .code)) ≡ atFirst f (c .args .code)
+failed f c u = sym (first-error f (c .args .code) (not-echo f u) (c .pre))
 
 returns-4 : tie.Need-returns-4
 returns-4 c =
@@ -42,7 +30,7 @@ at-error-spec =
     (λ c. search needs)
     (λ c. search needs)
     (λ c κs. search needs)
-    returns
-    returns-2
-    returns-3
+    (λ c. simp (c .enum-told .given .1) (failed (Exactly (c .enum-told .given .0 .0)) (c .before .before) refl))
+    (λ c. simp (c .enum-told2 .given .1) (failed Counted (c .before .before) refl))
+    (λ c. simp (c .enum-told3 .given .1) (failed (Awake (c .enum-told3 .given .0 .0)) (c .before .before) refl))
     returns-4)
