@@ -1,9 +1,11 @@
 // The reply table: where a byte leads from each phase of a reply, by the form that is awaited.
 ghost use mathlib.Core.Path.{_≡_};
 ghost use mathlib.Core.Bool.{true};
+ghost use mathlib.Core.List.{[]};
 ghost use Rattle.model.specs.declared.Form.{Form};
 ghost use Rattle.model.specs.declared.Phase.the-variants.{Failed};
 ghost use Rattle.model.specs.declared.Form.the-variants.{Counted};
+ghost use Rattle.table.specs.Errors.{mistaken};
 ghost use Rattle.model.specs.Replies.{isError, isReceived, dataLength, isEvent, anyEvent, wakeOf, atFirst, counting, atSecond, atEvent, isToCome, atData};
 use model::End;
 use model::Form;
@@ -86,6 +88,24 @@ fn at_error(form: Form, code: u8) -> Step
     }
 }
 
+// The table of error codes: a bit for each byte, from 8F down to 80.
+const ERRORS: u16 = 0b1111_1111_1110_1100;
+
+// The table marks the bytes that the paper does.
+fn errors() -> u16
+    ensures { λ r. ⌜ mistaken r ≡ [] ⌝ }
+{
+    ERRORS
+}
+
+// A byte is an error code.
+fn is_error(byte: u8) -> bool
+    ensures { λ r. ⌜ r ≡ isError byte ⌝ }
+{
+    let table = errors();
+    byte >> 4 == 0x8 && table >> (byte & 0x0F) & 1 == 1
+}
+
 // The first byte.
 fn first(form: Form, byte: u8) -> Step
     ensures { λ r. ⌜ r ≡ atFirst form byte ⌝ }
@@ -94,11 +114,12 @@ fn first(form: Form, byte: u8) -> Step
         0x00 => at_zero(form),
         0x55 => at_echo(form),
         0x80 | 0xA0 | 0xC0 => at_received(form, byte),
-        0x82 | 0x83 | 0x85..=0x8F => at_error(form, byte),
-        0x01..=0x54 | 0x56..=0x7F | 0x81 | 0x84 | 0x90..=0x9F | 0xA1..=0xBF | 0xC1..=0xFF => wrong(
-            0,
-            byte,
-        ),
+        0x81..=0x8F => if is_error(byte) {
+            at_error(form, byte)
+        } else {
+            wrong(0, byte)
+        },
+        0x01..=0x54 | 0x56..=0x7F | 0x90..=0x9F | 0xA1..=0xBF | 0xC1..=0xFF => wrong(0, byte),
     }
 }
 

@@ -1,0 +1,60 @@
+-- `table::is_error` meets its contract: the table marks what the paper does, of every byte.
+-- Assumes nothing.
+use borrow.Author.Needs.{needs}
+use Prim.Native.Nat.{ℕ, zero, suc, _/_, _%_, _^_, _<_}
+use native.Mathlib.Omega.{arith}
+use mathlib.Core.Path.{_≡_, sym, ap, _∙_}
+use mathlib.Core.Bool.{Bool, true, false, not, _&&_, Bool·beq}
+use mathlib.Core.List.{List, [], _∷_}
+use lib.Bits.{bitAnd, and-mask, mask-lt}
+use lib.Dec.{T, eqb}
+use lib.ListN.{length}
+use borrow.Author.Tests.{eq-eqb, ne-eqb}
+use Rattle.words.specs.Words.{pick, bit, those}
+use Rattle.words.proofs.Words.{all, same-on-bytes}
+use Rattle.model.specs.Replies.{isError}
+use Rattle.table.specs.Errors.{marked, mistaken}
+use Rattle.table.proofs.is_error.Statement.{statement}
+use Rattle.table.proofs.is_error.Tie as tie
+
+-- where no number below n fails a test, all pass it
+none : (f : ℕ → Bool) (n : ℕ) (xs : List ℕ) → those (λ (k : ℕ). not (f k)) n xs ≡ [] → (xs ≡ []) × T (all f n)
+none f zero xs e = (e, tt)
+none f (suc n) xs e = go (f n) (none f n (pick (not (f n)) (n ∷ xs) xs) e)
+  where
+    go : (t : Bool) → (pick (not t) (n ∷ xs) xs ≡ []) × T (all f n) → (xs ≡ []) × T (t && all f n)
+    go true below = below
+    go false below = let failed : suc (length xs) ≡ 0 = ap length (below .0) in absurd (omega arith)
+
+rule : (table : ℕ) → mistaken table ≡ [] → (b : ℕ) → b < 256 → marked table b ≡ isError b
+rule table e = same-on-bytes (marked table) isError (none (λ (b : ℕ). Bool·beq (marked table b) (isError b)) 256 [] e .1)
+
+-- a bit by masks
+looked : (table b : ℕ) → eqb (bitAnd (table / 2 ^ bitAnd b 0x0F) 1) 1 ≡ bit (b % 16) table
+looked table b = ap (λ (n : ℕ). eqb n 1) (and-mask (table / 2 ^ bitAnd b 0x0F) 1 ∙ ap (λ (k : ℕ). table / 2 ^ k % 2) (and-mask b 4))
+
+-- what the table says, once it is known whether the first digit is 8
+row : (c : tie.After-errors) (t : Bool) → eqb (c .before .args .byte / 16) 8 ≡ t → (t && bit (c .before .args .byte % 16) (c .errors .result)) ≡ isError (c .before .args .byte)
+row c t e =
+    let b = c .before .args .byte in
+    ap (λ (s : Bool). s && bit (b % 16) (c .errors .result)) (sym e) ∙ rule (c .errors .result) (c .errors .ensures) b (omega arith)
+
+returns : tie.Need-returns
+returns c =
+    let b = c .before .before .args .byte in
+    looked (c .before .errors .result) b ∙ row (c .before) true (eq-eqb (b / 16) 8 (c .if1 .taken))
+
+returns-2 : tie.Need-returns-2
+returns-2 c =
+    let other = ne-eqb (c .before .before .args .byte / 16) 8 (c .if1 .left) in
+    other ∙ row (c .before) false other
+
+pub is-error-spec : {M : Type 1} → statement M
+is-error-spec =
+    tie.close
+    (tie.spec
+    (λ c κs. search needs)
+    (λ c. omega (arith, mask-lt (c .before .before .args .byte) 4))
+    (λ c. mask-lt (c .before .before .args .byte) 4)
+    returns
+    returns-2)
