@@ -103,23 +103,24 @@ fn is_error(byte: u8) -> bool
     ensures { λ r. ⌜ r ≡ isError byte ⌝ }
 {
     let table = errors();
-    byte >> 4 == 0x8 && table >> (byte & 0x0F) & 1 == 1
+    if byte >> 4 == 0x8 {
+        return table >> (byte & 0x0F) & 1 == 1;
+    }
+    false
 }
 
 // The first byte.
 fn first(form: Form, byte: u8) -> Step
     ensures { λ r. ⌜ r ≡ atFirst form byte ⌝ }
 {
+    if is_error(byte) {
+        return at_error(form, byte);
+    }
     match byte {
         0x00 => at_zero(form),
         0x55 => at_echo(form),
         0x80 | 0xA0 | 0xC0 => at_received(form, byte),
-        0x81..=0x8F => if is_error(byte) {
-            at_error(form, byte)
-        } else {
-            wrong(0, byte)
-        },
-        0x01..=0x54 | 0x56..=0x7F | 0x90..=0x9F | 0xA1..=0xBF | 0xC1..=0xFF => wrong(0, byte),
+        0x01..=0x54 | 0x56..=0x7F | 0x81..=0x9F | 0xA1..=0xBF | 0xC1..=0xFF => wrong(0, byte),
     }
 }
 

@@ -6,10 +6,10 @@ use Rattle.looks.proofs.map.Statement.{statement}
 use Rattle.looks.proofs.map.Tie as tie
 
 abbrev Inv-loop : tie.InvT-loop
-Inv-loop steps map₀ i₀ map i = Unit {0}
+Inv-loop outcomes map₀ i₀ map i = Unit {0}
 
 abbrev μ-loop : tie.MeasureT-loop
-μ-loop steps map₀ i₀ map i = 256 - i
+μ-loop outcomes map₀ i₀ map i = 256 - i
 
 pub map-spec : {M : Type 1} → statement M
 map-spec =

@@ -47,7 +47,7 @@ returns c =
 returns-2 : tie.Need-returns-2
 returns-2 c =
     let other = ne-eqb (c .before .before .args .byte / 16) 8 (c .if1 .left) in
-    other ∙ row (c .before) false other
+    row (c .before) false other
 
 pub is-error-spec : {M : Type 1} → statement M
 is-error-spec =
