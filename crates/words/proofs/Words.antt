@@ -4,7 +4,7 @@ use Prim.Native.Nat.{ℕ, zero, suc, _+_, _<_}
 use native.Mathlib.Nat.{not-suc-le-zero, eq-or-lt-of-le, le-of-suc-le-suc}
 use native.Mathlib.Omega.{arith}
 use mathlib.Core.Path.{_≡_, refl, sym, ap, _∙_, subst}
-use mathlib.Core.Bool.{Bool, true, false, _&&_, Bool·beq}
+use mathlib.Core.Bool.{Bool, true, false, not, _&&_, Bool·beq}
 use mathlib.Core.Logic.{inl, inr}
 use mathlib.Core.List.{List, [], _∷_}
 use lib.Dec.{T}
@@ -12,7 +12,7 @@ use lib.Ieee.Fits.{and-l, and-r}
 use lib.ListN.{length, getD, drop, drop-of-length-le}
 use lib.Seq.{drop-cons}
 use borrow.Author.Tests.{lt-ltb, le-ltb, le-leb, lt-leb, eq-eqb, ne-eqb}
-use Rattle.words.specs.Words.{pick}
+use Rattle.words.specs.Words.{pick, those, Bytes}
 
 -- what holds of either choice, given its test, holds of the choice
 pub ways : {A : Type 0} (P : A → Type 0) (b : Bool) {x y : A} → (b ≡ true → P x) → (b ≡ false → P y) → P (pick b x y)
@@ -33,6 +33,11 @@ pub elements-all : (n i : ℕ) (xs : List ℕ) → length xs ≡ i + n → eleme
 elements-all zero i xs e = sym (drop-of-length-le xs {i = i} (omega arith))
 elements-all (suc n) i xs e = ap (λ (l : List ℕ). getD xs i 0 ∷ l) (elements-all n (suc i) xs (omega arith)) ∙ sym (drop-cons xs i 0 (omega arith))
 
+-- each is a byte whose elements are
+pub all-bytes : (xs : List ℕ) → ((k : ℕ) → getD xs k 0 < 256) → Bytes xs
+all-bytes [] h = tt
+all-bytes (x ∷ xs) h = (h 0, all-bytes xs (λ k. h (suc k)))
+
 -- a test of every number below n
 abbrev pub all : (ℕ → Bool) → ℕ → Bool
 all f zero = true
@@ -46,6 +51,15 @@ each f (suc n) t k h =
       | inl e ↦ subst (λ (z : ℕ). T (f z)) (sym e) (and-l (f n) (all f n) t)
       | inr l ↦ each f n (and-r (f n) (all f n) t) k l
     ]
+
+-- where no number below n fails a test, all pass it
+pub none-failed : (f : ℕ → Bool) (n : ℕ) (xs : List ℕ) → those (λ (k : ℕ). not (f k)) n xs ≡ [] → (xs ≡ []) × T (all f n)
+none-failed f zero xs e = (e, tt)
+none-failed f (suc n) xs e = go (f n) (none-failed f n (pick (not (f n)) (n ∷ xs) xs) e)
+  where
+    go : (t : Bool) → (pick (not t) (n ∷ xs) xs ≡ []) × T (all f n) → (xs ≡ []) × T (t && all f n)
+    go true below = below
+    go false below = let failed : suc (length xs) ≡ 0 = ap length (below .0) in absurd (omega arith)
 
 same : (a b : Bool) → T (Bool·beq a b) → a ≡ b
 same true true t = refl

@@ -11,23 +11,14 @@ use lib.Dec.{T, eqb}
 use lib.ListN.{length}
 use borrow.Author.Tests.{eq-eqb, ne-eqb}
 use Rattle.words.specs.Words.{pick, bit, those}
-use Rattle.words.proofs.Words.{all, same-on-bytes}
+use Rattle.words.proofs.Words.{none-failed, same-on-bytes}
 use Rattle.model.specs.Replies.{isError}
 use Rattle.table.specs.Errors.{marked, mistaken}
 use Rattle.table.proofs.is_error.Statement.{statement}
 use Rattle.table.proofs.is_error.Tie as tie
 
--- where no number below n fails a test, all pass it
-none : (f : ℕ → Bool) (n : ℕ) (xs : List ℕ) → those (λ (k : ℕ). not (f k)) n xs ≡ [] → (xs ≡ []) × T (all f n)
-none f zero xs e = (e, tt)
-none f (suc n) xs e = go (f n) (none f n (pick (not (f n)) (n ∷ xs) xs) e)
-  where
-    go : (t : Bool) → (pick (not t) (n ∷ xs) xs ≡ []) × T (all f n) → (xs ≡ []) × T (t && all f n)
-    go true below = below
-    go false below = let failed : suc (length xs) ≡ 0 = ap length (below .0) in absurd (omega arith)
-
 rule : (table : ℕ) → mistaken table ≡ [] → (b : ℕ) → b < 256 → marked table b ≡ isError b
-rule table e = same-on-bytes (marked table) isError (none (λ (b : ℕ). Bool·beq (marked table b) (isError b)) 256 [] e .1)
+rule table e = same-on-bytes (marked table) isError (none-failed (λ (b : ℕ). Bool·beq (marked table b) (isError b)) 256 [] e .1)
 
 -- a bit by masks
 looked : (table b : ℕ) → eqb (bitAnd (table / 2 ^ bitAnd b 0x0F) 1) 1 ≡ bit (b % 16) table

@@ -1,0 +1,4 @@
+pub mod AtVectors
+pub mod Xor
+pub mod Rule
+pub mod Changes

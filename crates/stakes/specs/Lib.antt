@@ -1,0 +1,3 @@
+pub mod Stakes
+pub mod Claims
+pub mod Vectors
