@@ -1,10 +1,11 @@
 // The call of the session that a line makes, on as much of a buffer as is lent.
 ghost use mathlib.Core.Path.{_≡_};
 ghost use Rattle.words.specs.Contract.{Is, onFront};
-ghost use Rattle.model.specs.Frames.{command};
+ghost use Rattle.model.specs.Frames.{command, sendRecv};
 ghost use Rattle.model.specs.Session.{request, feed, step, Meets};
+ghost use Rattle.stakes.specs.Stakes.{request as Stakes·request};
 ghost use Rattle.calls.specs.Calls.{dataFor};
-ghost use Rattle.acts.specs.Acts.{interfaceOf, planOf, acted};
+ghost use Rattle.acts.specs.Acts.{interfaceOf, planOf, requestFor, acted};
 use calls::Act;
 use model::Interface;
 use model::Kind;
@@ -15,6 +16,7 @@ use model::Session;
 use session::calibrating;
 use session::pieces;
 use session::requests;
+use stakes::Slots;
 
 // The settings of a calibration: the prescaler, then pairs and times in wire order.
 fn plan(prescaler: usize, given: &[u8]) -> Plan
@@ -61,6 +63,29 @@ fn send(s: Session, kind: Kind, given: &[u8], out: &mut [u8]) -> Outcome
     requests::request(s, kind, given, out)
 }
 
+// An inventory of so many slots.
+fn ask(s: Session, slots: Slots, out: &mut [u8]) -> Outcome
+    ensures { λ r. ⌜ Meets s (request (sendRecv (Stakes·request slots)) (now (out .entry))) r (now (out .exit)) ⌝ }
+{
+    let mut payload = [0u8; 3];
+    stakes::write(slots, &mut payload);
+    requests::send_recv(s, &payload, out)
+}
+
+// An inventory by its number of slots. Of another number there is no request: bytes stand for it that no SendRecv takes.
+fn inventory(s: Session, number: usize, out: &mut [u8]) -> Outcome
+    ensures { λ r. ⌜ Meets s (request (sendRecv (requestFor number)) (now (out .entry))) r (now (out .exit)) ⌝ }
+{
+    if number == 1 {
+        return ask(s, Slots::One, out);
+    }
+    if number == 16 {
+        return ask(s, Slots::Sixteen, out);
+    }
+    let none = [0u8; 256];
+    requests::send_recv(s, &none, out)
+}
+
 fn act(what: Act, s: Session, number: usize, given: &[u8], out: &mut [u8]) -> Outcome
     ensures { λ r. ⌜ Is (acted s what number (now (given .entry)) (now (out .entry))) r (now (out .exit)) ⌝ }
 {
@@ -68,6 +93,7 @@ fn act(what: Act, s: Session, number: usize, given: &[u8], out: &mut [u8]) -> Ou
         Act::PowerOn => session::power_on(s, interface(number)),
         Act::Pulse => session::pulse(s),
         Act::Sends(kind) => send(s, kind, given, out),
+        Act::Inventory => inventory(s, number, out),
         Act::Reset => requests::reset(s, out),
         Act::Poll => requests::poll(s, out),
         Act::Read => requests::read(s, number, out),

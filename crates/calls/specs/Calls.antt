@@ -7,14 +7,14 @@ use lib.ListN.{getD}
 use Rattle.model.specs.declared.Kind.{Kind}
 use Rattle.model.specs.declared.Kind.the-variants.{Idn, ProtocolSelect, SendRecv, Idle, RdReg, WrReg, Echo}
 use Rattle.model.specs.declared.Message.{Message}
-use Rattle.model.specs.declared.Message.the-variants.{GetFirmwareVersion, Inventory, GoToTagDetectingState, IsWakeUp, CalibrateTagDetecting}
+use Rattle.model.specs.declared.Message.the-variants.{GetFirmwareVersion, GoToTagDetectingState, IsWakeUp, CalibrateTagDetecting}
 use Rattle.words.specs.Words.{pick}
 use Rattle.model.specs.Registers.{readData}
 use Rattle.model.specs.Frames.{is}
 use Rattle.lines.specs.Lines.{same, byteAt, fore}
 use Rattle.text.specs.Writing.{word}
-use Rattle.calls.specs.declared.Act.the-variants.{PowerOn, Pulse, Sends, Reset, Poll, Read, Calibrate, Next}
-use Rattle.calls.specs.declared.Question.the-variants.{Times, Wait, Band, Command, Flags, Received}
+use Rattle.calls.specs.declared.Act.the-variants.{PowerOn, Pulse, Sends, Inventory, Reset, Poll, Read, Calibrate, Next}
+use Rattle.calls.specs.declared.Question.the-variants.{Times, Wait, Band, Command, Flags, Received, Stake}
 use Rattle.calls.specs.declared.Board.the-variants.{Asks, Reads, Answers, Fails, Replies}
 use Rattle.calls.specs.declared.Buffer.the-variants.{Out, Room}
 use Rattle.calls.specs.declared.Fault.the-variants.{NoProtocol, NoCode}
@@ -67,7 +67,7 @@ rows =
     ∷ row "received" (Tells Received) Any
     ∷ row "usb-idn" (Speaks (Asks Message.Idn)) Nothing
     ∷ row "usb-firmware" (Speaks (Asks GetFirmwareVersion)) Nothing
-    ∷ row "usb-inventory" (Speaks (Asks Inventory)) (Exactly 1)
+    ∷ row "usb-inventory" (Speaks (Asks Message.Inventory)) (Exactly 1)
     ∷ row "usb-detect" (Speaks (Asks GoToTagDetectingState)) (Exactly 2)
     ∷ row "usb-awake" (Speaks (Asks IsWakeUp)) Nothing
     ∷ row "usb-calibrate" (Speaks (Asks CalibrateTagDetecting)) Nothing
@@ -77,6 +77,8 @@ rows =
     ∷ row "usb-reply" (Speaks Replies) (Led NoCode)
     ∷ row "rdreg" (Acts (Sends RdReg)) (Exactly 1)
     ∷ row "wrreg" (Acts (Sends WrReg)) Any
+    ∷ row "inventory" (Acts Inventory) (Numbered greatest 0)
+    ∷ row "stake" (Tells Stake) Any
     ∷ row "out" (Sets Out) (Numbered longest 0)
     ∷ row "room" (Sets Room) (Numbered longest 0)
     ∷ row "help" Helps Nothing
@@ -120,7 +122,7 @@ givenFor kind payload = pick (is kind RdReg) (fore payload 1) payload
 abbrev pub askedBy : Message → ℕ
 askedBy Message.Idn = 19
 askedBy GetFirmwareVersion = 20
-askedBy Inventory = 21
+askedBy Message.Inventory = 21
 askedBy GoToTagDetectingState = 22
 askedBy IsWakeUp = 23
 askedBy CalibrateTagDetecting = 24

@@ -14,6 +14,8 @@ pub enum Act {
     Pulse,
     // a command, by its kind
     Sends(Kind),
+    // an inventory, by its number of slots
+    Inventory,
     Reset,
     Poll,
     Read,
@@ -29,6 +31,7 @@ pub enum Question {
     Command,
     Flags,
     Received,
+    Stake,
 }
 
 // A call on the messages of the demo board.
@@ -111,7 +114,7 @@ pub enum Shape {
 }
 
 // How many names there are.
-pub const CALLS: u8 = 34;
+pub const CALLS: u8 = 36;
 
 // Puts the name of the call that sends a command.
 pub fn put_kind(text: &mut [u8], at: usize, kind: Kind) -> usize
@@ -191,10 +194,15 @@ fn number(word: &[u8]) -> u8
         b'c' => either(word, b"calibrate", 10, either(word, b"command", 16, CALLS)),
         b'e' => either(word, b"echo", 6, CALLS),
         b'f' => either(word, b"feed", 12, either(word, b"flags", 17, CALLS)),
-        b'h' => either(word, b"help", 33, CALLS),
-        b'i' => either(word, b"idn", 2, either(word, b"idle", 5, CALLS)),
+        b'h' => either(word, b"help", 35, CALLS),
+        b'i' => either(
+            word,
+            b"idn",
+            2,
+            either(word, b"idle", 5, either(word, b"inventory", 31, CALLS)),
+        ),
         b'n' => either(word, b"next", 11, CALLS),
-        b'o' => either(word, b"out", 31, CALLS),
+        b'o' => either(word, b"out", 33, CALLS),
         b'p' => either(
             word,
             b"power-on",
@@ -213,11 +221,16 @@ fn number(word: &[u8]) -> u8
                     word,
                     b"received",
                     18,
-                    either(word, b"rdreg", 29, either(word, b"room", 32, CALLS)),
+                    either(word, b"rdreg", 29, either(word, b"room", 34, CALLS)),
                 ),
             ),
         ),
-        b's' => either(word, b"select", 3, either(word, b"send", 4, CALLS)),
+        b's' => either(
+            word,
+            b"select",
+            3,
+            either(word, b"send", 4, either(word, b"stake", 32, CALLS)),
+        ),
         b't' => either(word, b"times", 13, CALLS),
         b'u' => message_number(word),
         b'w' => either(word, b"wait", 14, either(word, b"wrreg", 30, CALLS)),

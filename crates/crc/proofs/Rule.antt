@@ -1,19 +1,20 @@
 -- The eight bits of a byte are one look-up in the table.
 -- Assumes nothing.
-use Prim.Native.Nat.{ℕ, zero, suc, _-_, _*_, _/_, _%_, _^_, _<_}
+use Prim.Native.Nat.{ℕ, zero, suc, _+_, _-_, _*_, _/_, _%_, _^_, _≤_, _<_}
 use native.Mathlib.Nat.{add-comm, mod-lt, div-eq-of-lt}
 use native.Mathlib.Numerals.{add-one}
 use native.Mathlib.Omega.{arith}
-use mathlib.Core.Path.{_≡_, refl, sym, ap, ap₂, _∙_}
+use mathlib.Core.Path.{_≡_, refl, sym, ap, ap₂, subst, _∙_}
 use mathlib.Core.Bool.{Bool, true, false}
 use mathlib.Core.List.{List, [], _∷_}
 use lib.Bits.{bitXor, xor-comm, xor-shr, xor-mod, xor-shifted, xor-zero-r, shifted-half, shifted-even}
-use lib.Dec.{eqb, eqb→eq}
+use lib.Dec.{ltb, eqb, eqb→eq}
 use lib.ListN.{getD}
+use borrow.Author.Tests.{ltb-true, ltb-false}
 use lib.Pow.{split, shr-shr, shl-shr, pow-pos}
 use Rattle.words.specs.Words.{pick, Bytes}
 use Rattle.words.proofs.Words.{each, none-failed}
-use Rattle.crc.specs.Crc.{polynomial, preset, shifted, bits, byte, bytes, crcOf, remainder, mistaken, looked, lookedAll}
+use Rattle.crc.specs.Crc.{polynomial, preset, shifted, bits, byte, bytes, crcOf, remainder, mistaken, Right, lookedAll}
 use Rattle.crc.specs.Claims.{ByTable}
 use Rattle.crc.proofs.Xor.{xor-swap}
 
@@ -64,18 +65,43 @@ at-once n x r h =
 
 -- ---- the table
 
-entry : (table : List ℕ) → mistaken table ≡ [] → (b : ℕ) → b < 256 → getD table b 0 ≡ remainder b
-entry table e b h =
-    let right : ℕ → Bool = λ k. eqb (getD table k 0) (remainder k) in
-    eqb→eq (getD table b 0) (remainder b) (each right 256 (none-failed right 256 [] e .1) b h)
+module _ (table : List ℕ) (right : Right table) (b : ℕ) where
+  abbrev Entry : ℕ → Type 0
+  Entry k = getD table k 0 ≡ remainder k
+
+  -- one of 32
+  from : (first : ℕ) → mistaken table first ≡ [] → first ≤ b → b < first + 32 → Entry b
+  from first e l h =
+      let test : ℕ → Bool = λ k. eqb (getD table (first + k) 0) (remainder (first + k)) in
+      let found = each test 32 (none-failed test 32 [] e .1) (b - first) (omega arith) in
+      let place : first + (b - first) ≡ b = omega arith in
+      subst Entry place (eqb→eq (getD table (first + (b - first)) 0) (remainder (first + (b - first))) found)
+
+  below : (n : ℕ) → (b < n → Entry b) → (n ≤ b → Entry b) → Entry b
+  below n less not-less = go (ltb b n) refl
+    where
+      go : (t : Bool) → ltb b n ≡ t → Entry b
+      go true t = less (ltb-true b n t)
+      go false f = not-less (ltb-false b n f)
+
+  entry : b < 256 → Entry b
+  entry h =
+      below 0x20 (λ l. from 0x00 (right .at-00) (omega arith) l)
+      (λ g. below 0x40 (λ l. from 0x20 (right .at-20) g l)
+      (λ g. below 0x60 (λ l. from 0x40 (right .at-40) g l)
+      (λ g. below 0x80 (λ l. from 0x60 (right .at-60) g l)
+      (λ g. below 0xA0 (λ l. from 0x80 (right .at-80) g l)
+      (λ g. below 0xC0 (λ l. from 0xA0 (right .at-A0) g l)
+      (λ g. below 0xE0 (λ l. from 0xC0 (right .at-C0) g l)
+      (λ g. from 0xE0 (right .at-E0) g h)))))))
 
 pub by-table : ByTable
 unfolding crcOf
-by-table table e bs h = ap (λ (r : ℕ). 0xFFFF - r) (all bs preset h)
+by-table table right bs h = ap (λ (r : ℕ). 0xFFFF - r) (all bs preset h)
   where
     all : (bs : List ℕ) (r : ℕ) → Bytes bs → lookedAll table bs r ≡ bytes bs r
     all [] r h = refl
     all (b ∷ bs) r h =
         ap (lookedAll table bs)
-        (sym (at-once 8 b r (h .0) ∙ ap (bitXor (r / 256)) (sym (entry table e (bitXor r b % 256) (mod-lt (bitXor r b) (pow-pos 8))))))
+        (sym (at-once 8 b r (h .0) ∙ ap (bitXor (r / 256)) (sym (entry table right (bitXor r b % 256) (mod-lt (bitXor r b) (pow-pos 8))))))
         ∙ all bs (byte b r) (h .1)

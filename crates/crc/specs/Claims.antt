@@ -3,14 +3,14 @@
 use Prim.Native.Nat.{ℕ, _<_}
 use mathlib.Core.Path.{_≡_}
 use mathlib.Core.Logic.{_↔_}
-use mathlib.Core.List.{List, []}
+use mathlib.Core.List.{List}
 use lib.ListN.{length, getD, set}
 use Rattle.words.specs.Words.{Bytes}
-use Rattle.crc.specs.Crc.{byte, crcOf, mistaken, crcBy}
+use Rattle.crc.specs.Crc.{byte, crcOf, Right, crcBy}
 
--- by a table without a mistaken entry, the CRC of all bytes is the rule's
+-- by a table of which no entry is mistaken, the CRC of all bytes is the rule's
 abbrev pub ByTable : Type 0
-ByTable = (table : List ℕ) → mistaken table ≡ [] → (bs : List ℕ) → Bytes bs → crcBy table bs ≡ crcOf bs
+ByTable = (table : List ℕ) → Right table → (bs : List ℕ) → Bytes bs → crcBy table bs ≡ crcOf bs
 
 -- where two bytes leave the same in two registers, they are one byte exactly if these held the same
 abbrev pub OneToOne : Type 0

@@ -1,6 +1,7 @@
 -- The CRC of ISO/IEC 13239, by which ISO/IEC 15693 tags close what they send: a register of sixteen bits that takes a bit at a time.
 -- Assumes nothing.
-use Prim.Native.Nat.{ℕ, zero, suc, _-_, _/_, _%_}
+use Prim.Native.Nat.{ℕ, zero, suc, _+_, _-_, _/_, _%_}
+use mathlib.Core.Path.{_≡_}
 use mathlib.Core.Bool.{not}
 use mathlib.Core.List.{List, [], _∷_}
 use lib.Bits.{bitXor}
@@ -45,9 +46,20 @@ crcOf bs = 0xFFFF - bytes bs preset
 abbrev pub remainder : ℕ → ℕ
 remainder b = byte b 0
 
--- the bytes whose entry in a table is not their remainder
-abbrev pub mistaken : List ℕ → List ℕ
-mistaken table = those (λ (b : ℕ). not (eqb (getD table b 0) (remainder b))) 256 []
+-- of 32 bytes from a first on, those whose entry in a table is not their remainder, told by how far they are from the first
+abbrev pub mistaken : List ℕ → ℕ → List ℕ
+mistaken table first = those (λ (k : ℕ). not (eqb (getD table (first + k) 0) (remainder (first + k)))) 32 []
+
+-- of all 256 there is none
+pub record Right (table : List ℕ) : Type 0 where
+  pub at-00 : mistaken table 0x00 ≡ []
+  pub at-20 : mistaken table 0x20 ≡ []
+  pub at-40 : mistaken table 0x40 ≡ []
+  pub at-60 : mistaken table 0x60 ≡ []
+  pub at-80 : mistaken table 0x80 ≡ []
+  pub at-A0 : mistaken table 0xA0 ≡ []
+  pub at-C0 : mistaken table 0xC0 ≡ []
+  pub at-E0 : mistaken table 0xE0 ≡ []
 
 -- a byte by the table: its bits are added to the low byte of the register, which is shifted out and chooses the entry
 abbrev pub looked : List ℕ → ℕ → ℕ → ℕ

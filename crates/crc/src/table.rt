@@ -1,7 +1,5 @@
 // The table of remainders: what each byte leaves in an empty register.
-ghost use mathlib.Core.Path.{_≡_};
-ghost use mathlib.Core.List.{[]};
-ghost use Rattle.crc.specs.Crc.{mistaken};
+ghost use Rattle.crc.specs.Crc.{Right};
 
 const REMAINDERS: [u16; 256] = [
     0x0000,
@@ -264,7 +262,7 @@ const REMAINDERS: [u16; 256] = [
 
 // No entry is mistaken.
 pub(crate) fn remainders() -> [u16; 256]
-    ensures { λ r. ⌜ mistaken r ≡ [] ⌝ }
+    ensures { λ r. ⌜ Right r ⌝ }
 {
     REMAINDERS
 }

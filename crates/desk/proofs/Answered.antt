@@ -33,10 +33,13 @@ use Rattle.model.specs.Messages.{row, named, readMessage, readAnswer}
 use Rattle.words.proofs.Words.{ways}
 use Rattle.lines.specs.Lines.{fore, rest, byteAt, skipped}
 use Rattle.text.specs.Writing.{written, word, hexes}
+use Rattle.stakes.specs.declared.StakeRead.{StakeRead}
+use Rattle.stakes.specs.Stakes.{read}
 use Rattle.calls.specs.declared.Question.{Question}
 use Rattle.calls.specs.declared.Question.the-variants.{Times, Wait, Command, Received}
 use Rattle.calls.specs.declared.Question.the-variants.{Band as BandOf}
 use Rattle.calls.specs.declared.Question.the-variants.{Flags as FlagsOf}
+use Rattle.calls.specs.declared.Question.the-variants.{Stake as StakeOf}
 use Rattle.calls.specs.declared.Verb.{Verb}
 use Rattle.calls.specs.declared.Verb.the-variants.{Acts, Feeds, Tells, Speaks, Sets, Helps}
 use Rattle.calls.specs.declared.Fault.{Fault}
@@ -51,7 +54,7 @@ use Rattle.faults.specs.Faults.{faultText}
 use Rattle.help.specs.Page.{page}
 use Rattle.answers.specs.Answers.{answerText, usedText}
 use Rattle.standing.specs.Standing.{stateText}
-use Rattle.questions.specs.Questions.{guardText, readingText, questionText}
+use Rattle.questions.specs.Questions.{guardText, readingText, stakeReadText, questionText}
 use Rattle.board.specs.Board.{writtenText, commandText, tells, contentsText, readText, replyText, spokenText}
 use Rattle.desk.specs.declared.Post.{Post}
 use Rattle.desk.specs.Desk.{Left, Heard, acting, feeding, speaking, obeyed, carriedOut, longest}
@@ -101,6 +104,10 @@ reading-short : (part : List ℕ) (reading : Reading) → T (short (readingText 
 reading-short part (Taken frame) = kind-short (frame .kind) (hexes (givenFor (frame .kind) (rest part 2)))
 reading-short part (NoFrame refusal) = tt
 
+stake-short : (read : StakeRead) → T (short (stakeReadText read))
+stake-short (StakeRead.Taken s) = tt
+stake-short (StakeRead.Refused k) = tt
+
 question-short : (question : Question) (given : List ℕ) → T (short (questionText question given))
 question-short Times given = ways (λ (parts : List (List ℕ)). T (short parts)) (settingsAllowed (settings given)) (λ t. tt) (λ t. tt)
 question-short Wait given =
@@ -110,6 +117,7 @@ question-short BandOf given = guard-short (band (byteAt given 0))
 question-short Command given = reading-short given (readCommand given)
 question-short FlagsOf given = tt
 question-short Received given = tt
+question-short StakeOf given = stake-short (read given)
 
 written-short : (told : Written) (out : List ℕ) → T (short (writtenText told out))
 written-short (Written.Sent n) out = tt

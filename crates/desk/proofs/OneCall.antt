@@ -7,20 +7,20 @@ use mathlib.Core.List.{List}
 use lib.Dec.{leb, ltb, eqb}
 use lib.ListN.{length}
 use Rattle.model.specs.declared.Session.{Session}
-use Rattle.model.specs.Frames.{command}
+use Rattle.model.specs.Frames.{command, sendRecv}
 use Rattle.model.specs.Session.{power-on, pulse, request, reset, poll, read, calibrate, next, feed}
 use Rattle.words.proofs.Words.{ways}
 use Rattle.lines.specs.Lines.{fore, byteAt, skipped}
 use Rattle.calls.specs.declared.Act.{Act}
 use Rattle.calls.specs.Calls.{dataFor}
-use Rattle.calls.specs.declared.Act.the-variants.{PowerOn, Pulse, Sends, Reset, Poll, Read, Calibrate, Next}
+use Rattle.calls.specs.declared.Act.the-variants.{PowerOn, Pulse, Sends, Inventory, Reset, Poll, Read, Calibrate, Next}
 use Rattle.calls.specs.declared.Buffer.the-variants.{Out, Room}
 use Rattle.calls.specs.declared.Verb.{Verb}
 use Rattle.calls.specs.declared.Verb.the-variants.{Acts, Feeds, Tells, Speaks, Sets, Helps}
 use Rattle.calls.specs.declared.Asked.{Asked}
 use Rattle.calls.specs.declared.Asked.the-variants.{Understood, Wrong}
 use Rattle.reading.specs.Asking.{asked}
-use Rattle.acts.specs.Acts.{interfaceOf, planOf, acted}
+use Rattle.acts.specs.Acts.{interfaceOf, planOf, requestFor, acted}
 use Rattle.desk.specs.declared.Post.{Post}
 use Rattle.desk.specs.Desk.{Left, Heard, obeyed, carriedOut, longest}
 use Rattle.desk.specs.Claims.{Made, OneCall}
@@ -29,6 +29,7 @@ act-made : (s : Session) (act : Act) (number : ℕ) (given out : List ℕ) → M
 act-made s PowerOn number given out = record { call = power-on (interfaceOf number); is = refl }
 act-made s Pulse number given out = record { call = pulse; is = refl }
 act-made s (Sends kind) number given out = record { call = request (command kind (dataFor kind given)) out; is = refl }
+act-made s Inventory number given out = record { call = request (sendRecv (requestFor number)) out; is = refl }
 act-made s Reset number given out = record { call = reset out; is = refl }
 act-made s Poll number given out = record { call = poll out; is = refl }
 act-made s Read number given out = record { call = read number out; is = refl }

@@ -18,6 +18,7 @@ send BYTES           SendRecv, its data                   sent BYTES [STATE]
 idle BYTES           Idle, its 14 data bytes              sent BYTES [STATE]
 rdreg RR             RdReg, the register's address        sent BYTES [STATE]
 wrreg BYTES          WrReg, its data                      sent BYTES [STATE]
+inventory N          an inventory, of 1 or 16 slots       sent BYTES [STATE]
 echo                 Echo, to be sent                     sent BYTES [STATE]
 reset                a reset over SPI                     sent BYTES [STATE]
 poll                 a poll over SPI                      sent BYTES [STATE]
@@ -31,6 +32,7 @@ band RR              the guard band of a reference        band LL HH
 command BYTES        the call that sends these bytes      idn, select PP ..
 flags BB             what the flags of a poll say         read yes send no
 received BYTES       what a poll or a read brought back   bytes BYTES
+stake BYTES          an inventory's answer, taken apart   as below
 usb-idn              IDN, as the board's message          bytes BYTES
 usb-firmware         GetFirmwareVersion, as a message     bytes BYTES
 usb-inventory FF     inventory of 16 slots, its flags     bytes BYTES
@@ -55,6 +57,7 @@ and at the end of a calibration
                 refused 12 CODE commands N used N [STATE]
 calibrate       P is the prescaler; the bytes are the enter, wake-up and leave
                 pairs, WuPeriod, OscStart, DacStart and SwingCnt
+stake           flags FF dsfid DD uid UU UU UU UU UU UU UU UU crc LL HH
 usb-reply       name BYTES, firmware VV VV VV, inventory K BYTES, detecting,
                 irq-out low or high, calibrated LL HH; or error CODE
 CC              a command's code: 01, BC, A1, A3, A2, A4, in the order above

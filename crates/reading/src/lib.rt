@@ -63,8 +63,10 @@ fn call_of(k: u8) -> Verb
         28 => Verb::Speaks(Board::Replies),
         29 => Verb::Acts(Act::Sends(Kind::RdReg)),
         30 => Verb::Acts(Act::Sends(Kind::WrReg)),
-        31 => Verb::Sets(Buffer::Out),
-        32 => Verb::Sets(Buffer::Room),
+        31 => Verb::Acts(Act::Inventory),
+        32 => Verb::Tells(Question::Stake),
+        33 => Verb::Sets(Buffer::Out),
+        34 => Verb::Sets(Buffer::Room),
         _ => Verb::Helps,
     }
 }
@@ -118,10 +120,15 @@ fn shape_of(k: u8) -> Shape
         29 => Shape::Exactly { wanted: 1 },
         30 => Shape::Any,
         31 => Shape::Numbered {
+            greatest: GREATEST,
+            wanted: 0,
+        },
+        32 => Shape::Any,
+        33 => Shape::Numbered {
             greatest: LONGEST,
             wanted: 0,
         },
-        32 => Shape::Numbered {
+        34 => Shape::Numbered {
             greatest: LONGEST,
             wanted: 0,
         },

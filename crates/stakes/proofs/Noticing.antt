@@ -14,9 +14,7 @@ use Rattle.words.proofs.Words.{ways}
 use Rattle.model.specs.Refusals.{number}
 use Rattle.crc.specs.Crc.{crcOf}
 use Rattle.crc.proofs.Changes.{tells}
-use Rattle.stakes.specs.declared.Stake.{Stake}
-use Rattle.stakes.specs.declared.StakeRead.the-variants.{Taken}
-use Rattle.stakes.specs.Stakes.{apart, together, read, numberIn}
+use Rattle.stakes.specs.Stakes.{apart, read, numberIn}
 use Rattle.stakes.specs.Claims.{Closed, Notices}
 use Rattle.stakes.proofs.Whole.{together-apart, refuses, put-together}
 

@@ -5,7 +5,7 @@ use native.Mathlib.Omega.{arith}
 use mathlib.Core.Path.{_≡_, refl, sym, ap, ap₂, _∙_, subst}
 use mathlib.Core.Bool.{Bool, true, false, true≢false}
 use mathlib.Core.Logic.{inl, inr}
-use mathlib.Core.List.{List, [], _∷_, _++_}
+use mathlib.Core.List.{List, _∷_, _++_}
 use lib.ListN.{length, getD, take, drop}
 use lib.Seq.{take-at}
 use Rattle.model.specs.declared.Kind.{Kind}
@@ -31,7 +31,6 @@ use Rattle.model.specs.Feeding.{Said, Read}
 use Rattle.model.proofs.Table.{received-each, completes, tabled}
 use Rattle.model.proofs.Feeding.{reads}
 use Rattle.stakes.specs.declared.Stake.{Stake}
-use Rattle.stakes.specs.declared.StakeRead.the-variants.{Taken}
 use Rattle.stakes.specs.Stakes.{together}
 use Rattle.stakes.specs.Stakes.{read as readStake}
 use Rattle.stakes.specs.Claims.{Closed, handedOut, Reads, Begins, ReadOff}

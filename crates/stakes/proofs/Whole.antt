@@ -16,7 +16,7 @@ use Rattle.stakes.specs.declared.Crc.{Crc}
 use Rattle.stakes.specs.declared.Stake.{Stake}
 use Rattle.stakes.specs.declared.StakeRead.the-variants.{Taken}
 use Rattle.stakes.specs.Stakes.{together, apart, isOf, isThirteen, isClosed, isZero, read, write}
-use Rattle.stakes.specs.Claims.{Closed, RefusedFor, Refuses, PutTogether, OneEach}
+use Rattle.stakes.specs.Claims.{Closed, Refuses, PutTogether, OneEach}
 use Rattle.stakes.proofs.Judging.{first, second, third, none-holds}
 
 pub together-apart : (xs : List ℕ) → length xs ≡ 13 → together (apart xs) ≡ xs

@@ -30,7 +30,10 @@ together s =
     s .uid .eighth ∷ s .uid .seventh ∷ s .uid .sixth ∷ s .uid .fifth ∷ s .uid .fourth ∷ s .uid .third ∷ s .uid .second ∷ s .uid .first ∷
     s .crc .low ∷ s .crc .high ∷ s .status ∷ []
 
--- the UID as people write it
+-- a UID as people write it
+abbrev pub written : Uid → List ℕ
+written u = u .first ∷ u .second ∷ u .third ∷ u .fourth ∷ u .fifth ∷ u .sixth ∷ u .seventh ∷ u .eighth ∷ []
+
 abbrev pub uidAt : List ℕ → Uid
 uidAt xs =
     record {

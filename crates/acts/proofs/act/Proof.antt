@@ -34,37 +34,44 @@ returns-4 c =
     let called = c .before .before in
     let told = called .before .before in
     let a = told .before .before .before .before .args in
-    by-name (a .s) (a .number) (now (a .given)) (now (a .out)) (told .enum-told3 .given .1) (called .reset .ensures)
+    by-name (a .s) (a .number) (now (a .given)) (now (a .out)) {r = called .inventory .result} {exit = called .inventory .last .1 .1 .0} (told .enum-told3 .given .1) (called .inventory .ensures)
 
 returns-5 : tie.Need-returns-5
 returns-5 c =
     let called = c .before .before in
     let told = called .before .before in
     let a = told .before .before .before .before .args in
-    by-name (a .s) (a .number) (now (a .given)) (now (a .out)) {r = called .poll .result} {exit = called .poll .last .1 .0} (told .enum-told4 .given .1) (called .poll .ensures)
+    by-name (a .s) (a .number) (now (a .given)) (now (a .out)) (told .enum-told4 .given .1) (called .reset .ensures)
 
 returns-6 : tie.Need-returns-6
 returns-6 c =
     let called = c .before .before in
     let told = called .before .before in
     let a = told .before .before .before .before .args in
-    by-name (a .s) (a .number) (now (a .given)) (now (a .out)) {r = called .read .result} {exit = called .read .last .1 .1 .0} (told .enum-told5 .given .1) (called .read .ensures)
+    by-name (a .s) (a .number) (now (a .given)) (now (a .out)) {r = called .poll .result} {exit = called .poll .last .1 .0} (told .enum-told5 .given .1) (called .poll .ensures)
 
 returns-7 : tie.Need-returns-7
 returns-7 c =
     let called = c .before .before in
-    let planned = called .before .before in
-    let told = planned .before in
+    let told = called .before .before in
     let a = told .before .before .before .before .args in
-    by-name (a .s) (a .number) (now (a .given)) (now (a .out)) (told .enum-told6 .given .1)
-    (by-call (a .s) (ap (λ (p : Plan). calibrate p (now (a .out))) (planned .plan .ensures)) (called .calibrate .ensures))
+    by-name (a .s) (a .number) (now (a .given)) (now (a .out)) {r = called .read .result} {exit = called .read .last .1 .1 .0} (told .enum-told6 .given .1) (called .read .ensures)
 
 returns-8 : tie.Need-returns-8
 returns-8 c =
     let called = c .before .before in
+    let planned = called .before .before in
+    let told = planned .before in
+    let a = told .before .before .before .before .args in
+    by-name (a .s) (a .number) (now (a .given)) (now (a .out)) (told .enum-told7 .given .1)
+    (by-call (a .s) (ap (λ (p : Plan). calibrate p (now (a .out))) (planned .plan .ensures)) (called .calibrate .ensures))
+
+returns-9 : tie.Need-returns-9
+returns-9 c =
+    let called = c .before .before in
     let told = called .before .before in
     let a = told .before .before .before .before .args in
-    by-name (a .s) (a .number) (now (a .given)) (now (a .out)) (told .enum-told7 .given .1) (called .calibrate-next .ensures)
+    by-name (a .s) (a .number) (now (a .given)) (now (a .out)) (told .enum-told8 .given .1) (called .calibrate-next .ensures)
 
 pub act-spec : {M : Type 1} → statement M
 act-spec =
@@ -72,6 +79,8 @@ act-spec =
     (tie.spec
     (λ c. search needs)
     (λ c κs. search needs)
+    (λ c κs. search needs)
+    (λ c. search needs)
     (λ c κs. search needs)
     (λ c. search needs)
     (λ c κs. search needs)
@@ -101,4 +110,6 @@ act-spec =
     (λ c. search needs)
     returns-7
     (λ c. search needs)
-    returns-8)
+    returns-8
+    (λ c. search needs)
+    returns-9)

@@ -54,10 +54,18 @@ returns-6 c =
     let told = called .before .before in
     puts (told .before .before) (told .enum-told6 .given .1) (called .received .ensures)
 
+returns-7 : tie.Need-returns-7
+returns-7 c =
+    let called = c .before .before in
+    let told = called .before .before in
+    puts (told .before .before) (told .enum-told7 .given .1) (called .stake .ensures)
+
 pub answer-spec : {M : Type 1} → statement M
 answer-spec =
     tie.close
     (tie.spec
+    (λ c. search needs)
+    (λ c κs. search needs)
     (λ c. search needs)
     (λ c κs. search needs)
     (λ c. search needs)
@@ -81,4 +89,6 @@ answer-spec =
     (λ c. search needs)
     returns-5
     (λ c. search needs)
-    returns-6)
+    returns-6
+    (λ c. search needs)
+    returns-7)

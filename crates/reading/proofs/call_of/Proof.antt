@@ -6,8 +6,8 @@ use Rattle.calls.proofs.Names.{last, past, helps}
 use Rattle.reading.proofs.call_of.Statement.{statement}
 use Rattle.reading.proofs.call_of.Tie as tie
 
-returns-34 : tie.Need-returns-34
-returns-34 c = let k = c .before .args .k in helps k (past last k (c .match .rest))
+returns-36 : tie.Need-returns-36
+returns-36 c = let k = c .before .args .k in helps k (past last k (c .match .rest))
 
 pub call-of-spec : {M : Type 1} → statement M
 call-of-spec =
@@ -46,4 +46,6 @@ call-of-spec =
     (λ c. sym (ap callOf (c .match .keys31)))
     (λ c. sym (ap callOf (c .match .keys32)))
     (λ c. sym (ap callOf (c .match .keys33)))
-    returns-34)
+    (λ c. sym (ap callOf (c .match .keys34)))
+    (λ c. sym (ap callOf (c .match .keys35)))
+    returns-36)

@@ -6,8 +6,15 @@ use Rattle.calls.proofs.Names.{last, past, takes-nothing}
 use Rattle.reading.proofs.shape_of.Statement.{statement}
 use Rattle.reading.proofs.shape_of.Tie as tie
 
-returns-34 : tie.Need-returns-34
-returns-34 c = let k = c .before .args .k in takes-nothing k (past last k (c .match .rest))
+-- inventory and stake, apart from the others: a log shows one error of a definition
+returns-32 : tie.Need-returns-32
+returns-32 c = sym (ap shapeOf (c .match .keys32))
+
+returns-33 : tie.Need-returns-33
+returns-33 c = sym (ap shapeOf (c .match .keys33))
+
+returns-36 : tie.Need-returns-36
+returns-36 c = let k = c .before .args .k in takes-nothing k (past last k (c .match .rest))
 
 pub shape-of-spec : {M : Type 1} → statement M
 shape-of-spec =
@@ -44,6 +51,8 @@ shape-of-spec =
     (λ c. sym (ap shapeOf (c .match .keys29)))
     (λ c. sym (ap shapeOf (c .match .keys30)))
     (λ c. sym (ap shapeOf (c .match .keys31)))
-    (λ c. sym (ap shapeOf (c .match .keys32)))
-    (λ c. sym (ap shapeOf (c .match .keys33)))
-    returns-34)
+    returns-32
+    returns-33
+    (λ c. sym (ap shapeOf (c .match .keys34)))
+    (λ c. sym (ap shapeOf (c .match .keys35)))
+    returns-36)

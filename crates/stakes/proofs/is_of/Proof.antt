@@ -7,7 +7,6 @@ use mathlib.Core.Path.{_≡_, sym, ap, _∙_}
 use mathlib.Core.Bool.{Bool, true, false, _&&_}
 use lib.Dec.{eqb}
 use denote.Ref.{now}
-use Rattle.crc.specs.Crc.{crcOf}
 use Rattle.stakes.specs.Stakes.{isOf}
 use Rattle.stakes.proofs.is_of.Statement.{statement}
 use Rattle.stakes.proofs.is_of.Tie as tie

@@ -1,16 +1,15 @@
 -- `table::is_error` meets its contract: the table marks what the paper does, of every byte.
 -- Assumes nothing.
 use borrow.Author.Needs.{needs}
-use Prim.Native.Nat.{ℕ, zero, suc, _/_, _%_, _^_, _<_}
+use Prim.Native.Nat.{ℕ, _/_, _%_, _^_, _<_}
 use native.Mathlib.Omega.{arith}
 use mathlib.Core.Path.{_≡_, sym, ap, _∙_}
-use mathlib.Core.Bool.{Bool, true, false, not, _&&_, Bool·beq}
-use mathlib.Core.List.{List, [], _∷_}
+use mathlib.Core.Bool.{Bool, true, false, _&&_, Bool·beq}
+use mathlib.Core.List.{[]}
 use lib.Bits.{bitAnd, and-mask, mask-lt}
-use lib.Dec.{T, eqb}
-use lib.ListN.{length}
+use lib.Dec.{eqb}
 use borrow.Author.Tests.{eq-eqb, ne-eqb}
-use Rattle.words.specs.Words.{pick, bit, those}
+use Rattle.words.specs.Words.{bit}
 use Rattle.words.proofs.Words.{none-failed, same-on-bytes}
 use Rattle.model.specs.Replies.{isError}
 use Rattle.table.specs.Errors.{marked, mistaken}
