@@ -13,7 +13,7 @@ use borrow.Author.Tests.{eqb-true, eqb-false, lt-ltb, le-ltb}
 use Rattle.words.specs.Words.{pick, Bytes}
 use Rattle.words.proofs.Words.{ways}
 use Rattle.crc.specs.Crc.{polynomial, preset, shifted, bits, byte, bytes, crcOf}
-use Rattle.crc.specs.Claims.{OneToOne, Tells, Sixteen}
+use Rattle.crc.specs.Claims.{OneToOne, Tells, TwoBytes}
 use Rattle.crc.proofs.Xor.{xor-back, xor-same-r, xor-same-l}
 use Rattle.crc.proofs.Rule.{added}
 
@@ -30,9 +30,9 @@ bytes-lt : (bs : List ℕ) (r : ℕ) → r < 65536 → bytes bs r < 65536
 bytes-lt [] r h = h
 bytes-lt (b ∷ bs) r h = bytes-lt bs (byte b r) (bits-lt 8 b r h)
 
-pub sixteen : Sixteen
+pub two-bytes : TwoBytes
 unfolding crcOf
-sixteen bs = omega arith
+two-bytes bs = omega arith
 
 -- ---- zeros go in one to one
 

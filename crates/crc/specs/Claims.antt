@@ -23,5 +23,5 @@ abbrev pub Tells : Type 0
 Tells = (bs : List ℕ) (k b : ℕ) → Bytes bs → k < length bs → b < 256 → (getD bs k 0 ≡ b → ⊥) → crcOf (set bs k b) ≡ crcOf bs → ⊥
 
 -- a CRC is two bytes
-abbrev pub Sixteen : Type 0
-Sixteen = (bs : List ℕ) → crcOf bs < 65536
+abbrev pub TwoBytes : Type 0
+TwoBytes = (bs : List ℕ) → crcOf bs < 65536
