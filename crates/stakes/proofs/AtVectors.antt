@@ -6,7 +6,7 @@ use Rattle.stakes.specs.Vectors.{Answers, Refusals, Requests, Heard}
 
 answers : Answers
 unfolding crcOf
-answers = record { printed = refl; printed-lr = refl; printed-dual = refl; in-place = refl; put = refl }
+answers = record { printed = refl; printed-lr = refl; printed-dual = refl; in-place = refl; put = refl; uid-written = refl }
 
 refusals : Refusals
 unfolding crcOf
