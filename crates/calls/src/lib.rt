@@ -11,7 +11,7 @@ ghost use Rattle.calls.specs.Calls.{rows, kind_name, message_name, position};
 use model::{Kind, Message};
 
 // A call of the session that is fed nothing.
-#[derive(Drop)]
+#[derive(Clone, Copy)]
 pub enum Act {
     PowerOn,
     Pulse,
@@ -27,7 +27,7 @@ pub enum Act {
 }
 
 // A question that needs no session.
-#[derive(Drop)]
+#[derive(Clone, Copy)]
 pub enum Question {
     Times,
     Wait,
@@ -39,7 +39,7 @@ pub enum Question {
 }
 
 // A call on the messages of the demo board.
-#[derive(Drop)]
+#[derive(Clone, Copy)]
 pub enum Board {
     // writes a command message
     Asks(Message),
@@ -54,14 +54,14 @@ pub enum Board {
 }
 
 // A buffer that the caller lends.
-#[derive(Drop)]
+#[derive(Clone, Copy)]
 pub enum Buffer {
     Out,
     Room,
 }
 
 // What a line asks for, by its first word.
-#[derive(Drop)]
+#[derive(Clone, Copy)]
 pub enum Verb {
     Acts(Act),
     Feeds,
@@ -72,7 +72,7 @@ pub enum Verb {
 }
 
 // What is wrong at a place of a line.
-#[derive(Drop)]
+#[derive(Clone, Copy)]
 pub enum Fault {
     // a line of more than 4,096 bytes
     TooLong,
@@ -97,7 +97,7 @@ pub enum Fault {
 }
 
 // A line read: a call with its number and how many bytes it has, or what is wrong. Places are counted from 0.
-#[derive(Drop)]
+#[derive(Clone, Copy)]
 pub enum Asked {
     Understood {
         call: Verb,
@@ -111,7 +111,7 @@ pub enum Asked {
 }
 
 // What a call takes behind its name.
-#[derive(Drop)]
+#[derive(Clone, Copy)]
 pub enum Shape {
     Nothing,
     Interface,

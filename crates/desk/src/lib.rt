@@ -10,7 +10,7 @@ use calls::{Act, Asked, Buffer, Fault, Verb};
 use model::Session;
 
 // The session, and how much of the output and of the reply room is lent.
-#[derive(Drop)]
+#[derive(Clone, Copy)]
 pub struct Post {
     pub session: Session,
     pub out: usize,
@@ -18,7 +18,7 @@ pub struct Post {
 }
 
 // The post after a line, and how long the answer is.
-#[derive(Drop)]
+#[derive(Clone, Copy)]
 pub struct Done {
     pub post: Post,
     pub n: usize,

@@ -49,7 +49,7 @@ fn byte_of(high: u8, low: u8) -> u16
 }
 
 // How many bytes there are, or the place that is no pair or has no room.
-#[derive(Drop)]
+#[derive(Clone, Copy)]
 pub enum Bytes {
     Are(usize),
     Wrong(usize),
@@ -83,7 +83,7 @@ pub fn read_bytes(line: &[u8], from: usize, bytes: &mut [u8]) -> Bytes
 }
 
 // A number and the place behind it, or the place of the word that is none.
-#[derive(Drop)]
+#[derive(Clone, Copy)]
 pub enum Number {
     Is { value: usize, next: usize },
     Wrong(usize),

@@ -18,7 +18,7 @@ const BYTES: usize = desk::LONGEST / 2;
 const TEXT: usize = 8192;
 
 // What is kept from line to line.
-#[derive(Drop)]
+#[derive(Clone, Copy)]
 struct Keeper {
     post: Post,
     // how many bytes of the next line are in

@@ -26,7 +26,7 @@ use Rattle.model.specs.Checks.{is_mild}
 use Rattle.model.specs.Replies.{form_of, is_error, is_received, data_length, most_data, is_event, any_event, failing, at_first, counting, at_second, at_event, is_to_come, next, reached, is_known_event, flaw_at, Meaning, verdict_of, reply}
 use Rattle.model.specs.Claims.{BitOf, timeout, tag, irq_in, spi_ss, Wrong, first, second, unknown, disabled, Breaks, MeansBy, Located}
 use Rattle.words.proofs.Words.{ways}
-use Rattle.model.proofs.Frames.{OfIdle, of-idle}
+use Rattle.model.proofs.Frames.{OfIdle, of_idle}
 use Rattle.model.proofs.Machine.{Bounded, to_come, come_so}
 use Rattle.model.proofs.Table.{or_cases, bounded, tabled}
 use Rattle.model.proofs.Cutting.{cutting}
@@ -165,7 +165,7 @@ wrong_of (no_event source b none) a own = subst (λ (z : Awaited). Wrong z 53 2 
 wrong_of (not_enabled source b k its clear) a own = subst (λ (z : Awaited). Wrong z 54 2 b) (sym own) (disabled source b k its clear)
 
 pub numbered : (a : Awaited) (xs : List ℕ) (place b : ℕ) → reached (form_of a) (On Begun) xs ≡ Over (Malformed place b) → Wrong a (flaw_number (flaw_at (form_of a) place b)) place b
-numbered a xs place b e = wrong_of (subst (Told (form_of a)) e (told (form_of a) (bounded a) (On Begun) xs tt)) a (of-idle a)
+numbered a xs place b e = wrong_of (subst (Told (form_of a)) e (told (form_of a) (bounded a) (On Begun) xs tt)) a (of_idle a)
 
 -- by what the table says of the bytes
 pub numbered_by : (a : Awaited) (xs : List ℕ) (place b : ℕ) → (reply a xs).verdict ≡ Ended (Malformed place b)

@@ -3,14 +3,14 @@ ghost use Rattle.std.specs.Prelude.{◌≡◌};
 ghost use Rattle.model.specs.Registers.{is_read, is_index, is_tuning, is_window};
 ghost use Rattle.registers.specs.LookUp.{ranges, same, covered, listed};
 
-#[derive(Drop)]
+#[derive(Clone, Copy)]
 pub enum Access {
     Read,
     Write,
 }
 
 // A row: the register, the least and the greatest value, read or write.
-#[derive(Drop)]
+#[derive(Clone, Copy)]
 pub struct Range(pub u8, pub u8, pub u8, pub Access);
 
 const RANGES: [Range; 32] = [

@@ -11,7 +11,7 @@ use model::Written;
 use settings::at;
 
 // A UID in the order in which people write it.
-#[derive(Drop)]
+#[derive(Clone, Copy)]
 pub struct Uid {
     pub first: u8,
     pub second: u8,
@@ -24,14 +24,14 @@ pub struct Uid {
 }
 
 // The two bytes of a CRC.
-#[derive(Drop)]
+#[derive(Clone, Copy)]
 pub struct Crc {
     pub low: u8,
     pub high: u8,
 }
 
 // An inventory answer, taken apart.
-#[derive(Drop)]
+#[derive(Clone, Copy)]
 pub struct Stake {
     pub flags: u8,
     pub dsfid: u8,
@@ -41,7 +41,7 @@ pub struct Stake {
 }
 
 // What bytes are refused for that are no such answer, with the paper's numbers.
-#[derive(Drop)]
+#[derive(Clone, Copy)]
 pub enum Unread {
     // not 13 bytes
     OtherLength = 13,
@@ -50,14 +50,14 @@ pub enum Unread {
     WrongStatus = 15,
 }
 
-#[derive(Drop)]
+#[derive(Clone, Copy)]
 pub enum StakeRead {
     Taken(Stake),
     Refused(Unread),
 }
 
 // How many slots an inventory has.
-#[derive(Drop)]
+#[derive(Clone, Copy)]
 pub enum Slots {
     One,
     Sixteen,

@@ -12,7 +12,7 @@ ghost use Rattle.states.specs.Leave.{leave};
 use model::{Calibration, Kind, Refusal, Session, State};
 
 // Whether a request is refused before it is written.
-#[derive(Drop)]
+#[derive(Clone, Copy)]
 pub enum Leave {
     Given,
     Refused(Refusal),
