@@ -6,13 +6,19 @@
 ghost use Rattle.std.specs.Prelude.{◌≤◌};
 
 use desk::Post;
-use libc::{STDERR_FILENO, STDIN_FILENO, STDOUT_FILENO};
+use std::env;
+use std::fs::File;
+use std::io;
+use std::io::{Read, Write};
 
 // Room for the longest line with a carriage return, and for one byte more, by which a longer line is known.
 const LINE: usize = desk::LONGEST + 2;
 
 // Room for the bytes of the longest line, two digits each.
 const BYTES: usize = desk::LONGEST / 2;
+
+// Room for what one read brings.
+const BUFFER: usize = 4096;
 
 // Room for the longest answer: all bytes of the longest line, three places each.
 const TEXT: usize = 8192;
@@ -64,21 +70,29 @@ fn trimmed(line: &[u8]) -> &[u8] {
     line
 }
 
+// What failed, on standard error; where that fails too, nobody can be told.
+fn complain(rt: &HostRuntime, what: &str, error: &io::Error) {
+    let _told = eprintln!(rt; "host: {what}: {error}").is_ok();
+}
+
 // Writes an answer of n bytes, with a line end, and answers whether that was done.
-fn tell(text: &mut [u8], n: usize) -> bool {
+fn tell(rt: &HostRuntime, text: &mut [u8], n: usize) -> bool {
     if n == 0 {
         return true;
     }
     let end = text::put(text, n, b"\n");
-    if io::write_all(STDOUT_FILENO, lines::front(text, end)) {
-        return true;
+    match rt.stdout().write_all(lines::front(text, end)) {
+        Ok(()) => true,
+        Err(error) => {
+            complain(rt, "standard output", &error);
+            false
+        }
     }
-    os::fail(b"host: standard output");
-    false
 }
 
 // Answers a line.
 fn answer(
+    rt: &HostRuntime,
     k: Keeper,
     line: &[u8],
     bytes: &mut [u8],
@@ -101,7 +115,7 @@ fn answer(
         n: 0,
         count,
         errors,
-        is_over: !tell(text, n),
+        is_over: !tell(rt, text, n),
     }
 }
 
@@ -138,6 +152,7 @@ fn line_end(read: &[u8], from: usize) -> usize
 
 // Answers each line that ends in what was read, and keeps what comes behind the last.
 fn take_all(
+    rt: &HostRuntime,
     read: &[u8],
     k: Keeper,
     line: &mut [u8],
@@ -154,76 +169,75 @@ fn take_all(
         from = end;
         if end < read.len() {
             from = end + 1;
-            k = answer(k, lines::front(line, k.n), bytes, out, room, text);
+            k = answer(rt, k, lines::front(line, k.n), bytes, out, room, text);
         }
     }
     k
 }
 
-fn tell_errors(errors: u64) {
-    io::write_all(STDERR_FILENO, b"host: lines answered error: ");
-    io::print_decimal(STDERR_FILENO, errors);
-    io::write_all(STDERR_FILENO, b"\n");
+fn tell_errors(rt: &HostRuntime, errors: u64) {
+    let _told = eprintln!(rt; "host: lines answered error: {errors}").is_ok();
 }
 
-// Answers all lines of what is read, by its name. A proved loop ends, so the reads are counted down from a number that no run uses up.
-fn run(fd: i32, name: &[u8], is_strict: bool) {
-    let mut buffer = io::buffer();
+// Answers all lines of what is read, by its name.
+fn run<R: Read>(rt: &HostRuntime, input: R, name: &str, is_strict: bool) {
+    let mut input = input;
+    let mut buffer = [0u8; BUFFER];
     let mut line = [0u8; LINE];
     let mut bytes = [0u8; BYTES];
     let mut out = [0u8; reading::LONGEST];
     let mut room = [0u8; reading::LONGEST];
     let mut text = [0u8; TEXT];
-    let buffer: &mut [u8] = &mut buffer;
-    let line: &mut [u8] = &mut line;
-    let bytes: &mut [u8] = &mut bytes;
-    let out: &mut [u8] = &mut out;
-    let room: &mut [u8] = &mut room;
-    let text: &mut [u8] = &mut text;
     let mut k = begun();
-    let mut reads = u64::MAX;
-    let mut got = 1;
-    while reads > 0 && got > 0 && !k.is_over {
-        reads -= 1;
-        got = libc::read(fd, buffer);
-        if got < 0 {
-            os::fail(name);
-            return;
+    for _ in 0..u64::MAX {
+        let n = match input.read(&mut buffer) {
+            Ok(n) => n,
+            Err(error) => {
+                complain(rt, name, &error);
+                return;
+            }
+        };
+        if n == 0 {
+            break;
         }
-        let n = io::count(got, buffer);
-        k = take_all(lines::front(buffer, n), k, line, bytes, out, room, text);
+        k = take_all(rt, &buffer[..n], k, &mut line, &mut bytes, &mut out, &mut room, &mut text);
+        if k.is_over {
+            break;
+        }
     }
     if k.n > 0 && !k.is_over {
-        k = answer(k, lines::front(line, k.n), bytes, out, room, text);
+        k = answer(rt, k, lines::front(&line, k.n), &mut bytes, &mut out, &mut room, &mut text);
     }
     if is_strict && k.errors > 0 {
-        tell_errors(k.errors);
+        tell_errors(rt, k.errors);
     }
 }
 
-fn run_file(path: &[u8], is_strict: bool) {
-    if lines::are_same(path, b"-") {
-        run(STDIN_FILENO, b"host: standard input", is_strict);
+fn run_file(rt: &HostRuntime, path: &str, is_strict: bool) {
+    if path == "-" {
+        run(rt, rt.stdin(), "standard input", is_strict);
         return;
     }
-    let fd = os::open_read(path);
-    if fd < 0 {
-        os::fail(path);
-        return;
+    match File::open(rt, path) {
+        Ok(file) => run(rt, file, path, is_strict),
+        Err(error) => complain(rt, path, &error),
     }
-    run(fd, path, is_strict);
-    libc::close(fd);
 }
 
-fn main() {
-    let mut path = io::buffer();
-    let n = os::arg(1, &mut path);
-    let is_strict = lines::are_same(lines::front(&path, n), b"--strict");
-    let place = if is_strict { 2 } else { 1 };
-    if os::arg_count() <= place {
-        run(STDIN_FILENO, b"host: standard input", is_strict);
-        return;
+fn main(rt: HostRuntime) -> io::Result<()> {
+    let mut words = env::args(&rt)?;
+    let _program = words.next();
+    let mut word = words.next();
+    let is_strict = match &word {
+        Some(first) => first.as_str() == "--strict",
+        None => false,
+    };
+    if is_strict {
+        word = words.next();
     }
-    let n = os::arg(place, &mut path);
-    run_file(lines::front(&path, n), is_strict);
+    match &word {
+        Some(path) => run_file(&rt, path.as_str(), is_strict),
+        None => run_file(&rt, "-", is_strict),
+    }
+    Ok(())
 }
