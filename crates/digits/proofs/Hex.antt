@@ -1,12 +1,11 @@
--- Digits and pairs read at a place: past the blanks, the end of the line, what is no pair, and a byte more.
+-- Pairs read at a place: past the blanks, the end of the line, what is no pair, and a byte more.
 -- Assumes nothing.
-use Prim.Native.Nat.{ℕ, suc, ◌+◌, ◌*◌, ◌≤◌, ◌<◌}
+use Prim.Native.Nat.{ℕ, suc, ◌+◌, ◌≤◌, ◌<◌}
 use native.Mathlib.Numerals.{add-one, add-two, one-add}
 use native.Mathlib.Omega.{arith}
 use mathlib.Core.Path.{◌≡◌, refl, sym, ap, ◌∙◌, subst⁻¹}
 use mathlib.Core.Bool.{Bool, true, false}
 use mathlib.Core.List.{List, [], ◌∷◌}
-use lib.Dec.{ltb}
 use lib.ListN.{length, drop, get_or, set, length-drop, drop_of_length-le}
 use lib.Seq.{drop-cons, drop-drop, get_or-drop}
 use borrow.Author.Tests.{lt-ltb, le-ltb, le-leb, lt-leb}
@@ -15,26 +14,7 @@ use Rattle.words.specs.Contract.{Ran, Is}
 use Rattle.lines.specs.Lines.{blank, blanks, skipped}
 use Rattle.digits.specs.declared.Bytes.{Bytes}
 use Rattle.digits.specs.declared.Bytes.TheVariants.{Are, Wrong}
-use Rattle.digits.specs.Hex.{digit, byte_of, read_on}
-
--- two digits by what they stand for
-abbrev spelled : ℕ → ℕ → ℕ
-spelled high low = pick (ltb high 16) (pick (ltb low 16) (high * 16 + low) 256) 256
-
-pub no_higher : (x y : ℕ) {h : ℕ} → h ≡ digit x → 15 < h → 256 ≡ byte_of x y
-no_higher x y {h} e g =
-    let none : 256 ≡ spelled h (digit y) = simp (le-ltb h 16 g) in
-    none ∙ ap (λ (k : ℕ). spelled k (digit y)) e
-
-pub no_lower : (x y : ℕ) {h l : ℕ} → h ≡ digit x → l ≡ digit y → h ≤ 15 → 15 < l → 256 ≡ byte_of x y
-no_lower x y {h} {l} e f g k =
-    let none : 256 ≡ spelled h l = simp (lt-ltb h 16 (omega arith), le-ltb l 16 k) in
-    none ∙ ap (λ (a : ℕ). spelled a l) e ∙ ap (λ (a : ℕ). spelled (digit x) a) f
-
-pub both : (x y : ℕ) {h l : ℕ} → h ≡ digit x → l ≡ digit y → h ≤ 15 → l ≤ 15 → h * 16 + l ≡ byte_of x y
-both x y {h} {l} e f g k =
-    let is : h * 16 + l ≡ spelled h l = simp (lt-ltb h 16 (omega arith), lt-ltb l 16 (omega arith)) in
-    is ∙ ap (λ (a : ℕ). spelled a l) e ∙ ap (λ (a : ℕ). spelled (digit x) a) f
+use Rattle.digits.specs.Hex.{byte_of, read_on}
 
 -- a call that did what a value says
 pub ended : {A : Type 0} {m : Ran A} (a : A) (b : List ℕ) → m ≡ record { answer = a; bytes = b } → Is m a b
