@@ -1,4 +1,4 @@
--- What the data of a walked piece do to the room, by how many are to stand in it; and what a feed comes to, by the piece and the room.
+-- What the data of a walked piece do to the room, by how many are to stand in it.
 -- Assumes nothing.
 use Prim.Native.Nat.{ℕ, ◌+◌, ◌-◌, ◌≤◌, ◌<◌}
 use native.Mathlib.Omega.{arith}
@@ -8,27 +8,19 @@ use mathlib.Core.List.{List, [], ◌∷◌, ◌++◌}
 use lib.Dec.{eqb}
 use lib.ListN.{length, take, drop}
 use lib.Seq.{paste, paste-zero, length-take-le, take-length}
-use borrow.Author.Tests.{lt-ltb, le-ltb}
 use Rattle.model.specs.declared.Awaited.{Awaited}
 use Rattle.model.specs.declared.Form.{Form}
 use Rattle.model.specs.declared.Phase.{Phase}
 use Rattle.model.specs.declared.Phase.TheVariants.{Begun, Failed, Counting, Waking, Data}
-use Rattle.model.specs.declared.Progress.{Progress}
 use Rattle.model.specs.declared.End.{End}
 use Rattle.model.specs.declared.End.TheVariants.{Good, Woken, Error, Malformed}
 use Rattle.model.specs.declared.Step.{Step}
 use Rattle.model.specs.declared.Step.TheVariants.{On, Over}
-use Rattle.model.specs.declared.Verdict.TheVariants.{More, NoRoom}
-use Rattle.model.specs.declared.Place.TheVariants.{Nowhere}
 use Rattle.words.specs.Words.{pick, pasted}
-use Rattle.model.specs.Replies.{least_room, most_data, has_data, reached, used, have, ahead, with, fed_by, fed_from, feed}
+use Rattle.model.specs.Replies.{most_data, has_data, reached, used, have, ahead, fed_by}
 use Rattle.model.proofs.Machine.{Deep, DeepAt, deep, depth, at_depth, All, used_all, last, Few, few}
 use Rattle.buffers.proofs.Pasting.{fits}
 use Rattle.replies.specs.Reading.{whole, kept}
-
--- behind data that stand in the room come data alone
-pub none_ahead : (p : Phase) → (have p ≡ 0 → ⊥) → ahead p ≡ 0
-none_ahead p n = let d = at_depth p in omega arith
 
 -- ---- what is written
 
@@ -86,19 +78,3 @@ copied room xs h n most l =
     let front = take n xs in
     let e : length front ≡ n = length-take-le n xs l in
     fits room front h (omega arith) ∙ ap₂ (λ (ys : List ℕ) (k : ℕ). take h room ++ ys ++ drop (h + k) room) (take-length front) e
-
--- ---- a feed
-
-module _ (p : Progress) (room : List ℕ) where
-  pub feed_none : (xs : List ℕ) → length xs ≡ 0 → with room (record { verdict = More; used = 0; place = Nowhere; progress = p }) ≡ feed p xs room
-  feed_none [] n = refl
-  feed_none (x ∷ xs) n = absurd (omega arith)
-
-  pub feed_short : (xs : List ℕ) → (length xs ≡ 0 → ⊥) → length room < least_room
-      → with room (record { verdict = NoRoom; used = 0; place = Nowhere; progress = p }) ≡ feed p xs room
-  feed_short [] n h = absurd (n refl)
-  feed_short (x ∷ xs) n h = simp (lt-ltb (length room) least_room h)
-
-  pub feed_some : (xs : List ℕ) → (length xs ≡ 0 → ⊥) → least_room ≤ length room → fed_from p.awaited p.phase xs room ≡ feed p xs room
-  feed_some [] n h = absurd (n refl)
-  feed_some (x ∷ xs) n h = simp (le-ltb (length room) least_room h)
