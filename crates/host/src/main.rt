@@ -180,7 +180,7 @@ fn tell_errors(rt: &HostRuntime, errors: u64) {
 }
 
 // Answers all lines of what is read, by its name.
-fn run<R: Read>(rt: &HostRuntime, input: R, name: &str, is_strict: bool) {
+fn run<R: Read + Drop>(rt: &HostRuntime, input: R, name: &str, is_strict: bool) {
     let mut input = input;
     let mut buffer = [0u8; BUFFER];
     let mut line = [0u8; LINE];

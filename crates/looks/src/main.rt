@@ -2,11 +2,12 @@
 
 #![tactic(auto)]
 
-use libc::STDOUT_FILENO;
 use model::{
     Answer, Awaited, Calibration, Interface, Kind, Outcome, Phase, Progress, Session, State,
 };
 use replies::reading;
+use std::io;
+use std::io::Write;
 
 // All bytes and 00 again, so that each of the 256 looks ends where another begins. No other loop of the program has as many turns.
 const LOOKS: usize = 257;
@@ -88,19 +89,20 @@ fn map(outcomes: [Outcome; 256]) -> [u8; 272] {
     map
 }
 
-fn show(name: &[u8], session: Session) {
+fn show(rt: &HostRuntime, name: &[u8], session: Session) -> io::Result<()> {
     let mut room = [0u8; reading::LEAST_ROOM];
     let map = map(looks([session; 256], bytes(), &mut room));
-    io::write_all(STDOUT_FILENO, name);
-    io::write_all(STDOUT_FILENO, &map);
+    let mut screen = rt.stdout();
+    screen.write_all(name)?;
+    screen.write_all(&map)
 }
 
-fn main() {
-    show(b"IDN\n", awaiting(Kind::Idn, 0x00));
-    show(b"ProtocolSelect\n", awaiting(Kind::ProtocolSelect, 0x01));
-    show(b"SendRecv\n", awaiting(Kind::SendRecv, 0x00));
-    show(b"Idle\n", awaiting(Kind::Idle, 0x03));
-    show(b"RdReg\n", awaiting(Kind::RdReg, 0x62));
-    show(b"WrReg\n", awaiting(Kind::WrReg, 0x3A));
-    show(b"Echo\n", awaiting(Kind::Echo, 0x00));
+fn main(rt: HostRuntime) -> io::Result<()> {
+    show(&rt, b"IDN\n", awaiting(Kind::Idn, 0x00))?;
+    show(&rt, b"ProtocolSelect\n", awaiting(Kind::ProtocolSelect, 0x01))?;
+    show(&rt, b"SendRecv\n", awaiting(Kind::SendRecv, 0x00))?;
+    show(&rt, b"Idle\n", awaiting(Kind::Idle, 0x03))?;
+    show(&rt, b"RdReg\n", awaiting(Kind::RdReg, 0x62))?;
+    show(&rt, b"WrReg\n", awaiting(Kind::WrReg, 0x3A))?;
+    show(&rt, b"Echo\n", awaiting(Kind::Echo, 0x00))
 }
