@@ -55,9 +55,6 @@ apart_by : (i : ℕ) (w : List ℕ) {letter : ℕ} → letter ≡ byte_at w i �
 apart_by i w {letter} e name t =
     unlike i w name (λ (f : byte_at name i ≡ byte_at w i). eqb-false (byte_at name i) letter t (f ∙ sym e))
 
-pub by_first : (w : List ℕ) (first : ℕ) → first ≡ byte_at w 0 → sought (has 0 first) w 0 rows ≡ position w rows
-by_first w first e = by_test (has 0 first) w (apart_by 0 w e) 0 rows ∙ zero-add (position w rows)
-
 -- the first letter u, and the fifth
 abbrev pub fifth : ℕ → List ℕ → Bool
 fifth letter name = pick (has 0 117 name) (has 4 letter name) false
@@ -70,15 +67,6 @@ by_fifth w letter u e =
     ∙ zero-add (position w rows)
 
 -- ---- the call of a number
-
--- none of the numbers below n
-abbrev pub Passed : ℕ → ℕ → Type 0
-Passed zero k = Unit {0}
-Passed (suc n) k = Passed n k × (k ≡ n → ⊥)
-
-pub past : (n k : ℕ) → Passed n k → n ≤ k
-past zero k h = omega arith
-past (suc n) k h = let l = past n k h.0 in omega (arith, h.1)
 
 -- the last row
 abbrev pub last : ℕ
