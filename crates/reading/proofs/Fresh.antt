@@ -27,7 +27,7 @@ use Rattle.calls.specs.declared.Fault.{Fault}
 use Rattle.calls.specs.declared.Asked.{Asked}
 use Rattle.calls.specs.declared.Asked.TheVariants.{Understood, Wrong}
 use Rattle.calls.specs.Calls.{rows, call_of, shape_of, position}
-use Rattle.reading.specs.Asking.{ended, interfaced, bytes_asked, any, counted, led, judged, untouched, numbered, read_shape, asked}
+use Rattle.reading.specs.Asking.{ended, interfaced, bytes_asked, any, counted, led, judged, untouched, numbered, read_shape}
 use Rattle.reading.specs.Claims.{count_in, Fresh}
 
 -- two readings with the same answer and the same bytes
