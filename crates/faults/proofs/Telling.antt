@@ -1,9 +1,9 @@
 -- A column, and the text of a fault that is known.
 -- Assumes nothing.
-use Prim.Native.Nat.{ℕ, ◌+◌, ◌-◌, ◌^◌, ◌≤◌, ◌<◌}
-use mathlib.Core.Path.{◌≡◌, refl, subst⁻¹}
+use Prim.Native.Nat.{ℕ, ◌+◌, ◌-◌, ◌^◌, ◌<◌}
+use mathlib.Core.Path.{◌≡◌, subst⁻¹}
 use mathlib.Core.List.{List}
-use borrow.Author.Tests.{lt-ltb, le-ltb}
+use borrow.Author.Tests.{lt-ltb}
 use Rattle.text.specs.Writing.{Puts, number}
 use Rattle.calls.specs.declared.Fault.{Fault}
 use Rattle.faults.specs.Faults.{column, what_text}
@@ -11,9 +11,6 @@ use Rattle.faults.specs.Faults.{column, what_text}
 module _ (text : List ℕ) (at place : ℕ) where
   pub column_is : (r : ℕ) (exit : List ℕ) → place < 2 ^ 64 - 1 → Puts text at (number (place + 1)) r exit → Puts text at (column place) r exit
   column_is r exit h is = simp (lt-ltb place (2 ^ 64 - 1) h) is
-
-  pub no_column : 2 ^ 64 - 1 ≤ place → Puts text at (column place) at text
-  no_column h = simp (le-ltb place (2 ^ 64 - 1) h) (record { is = record { answer = refl; bytes = refl } })
 
 pub told : (at r : ℕ) (exit : List ℕ) {text : List ℕ} {fault known : Fault} → fault ≡ known → Puts text at (what_text known) r exit
     → Puts text at (what_text fault) r exit

@@ -1,0 +1,7 @@
+-- Where it is, then what it is.
+-- Assumes nothing.
+use Rattle.text.proofs.Writing.{◌then◌}
+use Rattle.faults.proofs.put.Goals as goal
+
+pub returns : goal.returns
+returns c = c.put_where-n.ensures then c.put_what.ensures
