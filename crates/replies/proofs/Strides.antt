@@ -1,10 +1,10 @@
--- One byte is a stride, and so are data bytes: as many as there are, or all that are to come. And a walk goes on behind a stride.
+-- Data bytes are a stride: as many as there are, or all that are to come. And a walk goes on behind a stride.
 -- Assumes nothing.
 use Prim.Native.Nat.{ℕ, ◌+◌, ◌-◌, ◌≤◌, ◌<◌}
 use native.Mathlib.Omega.{arith}
-use mathlib.Core.Path.{◌≡◌, refl, sym, ap, ap₂, ◌∙◌, subst}
-use mathlib.Core.List.{List, [], ◌∷◌}
-use lib.ListN.{length, get_or, take, drop, take-append-drop, length-drop, drop_of_length-le}
+use mathlib.Core.Path.{◌≡◌, sym, ap, ap₂, ◌∙◌, subst}
+use mathlib.Core.List.{List}
+use lib.ListN.{length, take, drop, take-append-drop, length-drop}
 use lib.Seq.{length-take-le, take-length, take_all, drop-drop}
 use Rattle.model.specs.declared.Form.{Form}
 use Rattle.model.specs.declared.Phase.{Phase}
@@ -14,7 +14,7 @@ use Rattle.model.specs.declared.End.TheVariants.{Good}
 use Rattle.model.specs.declared.Step.{Step}
 use Rattle.model.specs.declared.Step.TheVariants.{On, Over}
 use Rattle.model.specs.declared.Walk.{Walk}
-use Rattle.model.specs.Replies.{most_data, next, reached, used, walked}
+use Rattle.model.specs.Replies.{most_data, reached, used, walked}
 use Rattle.model.proofs.Machine.{stays, no_more, reached_append, used_append, All, used_all, data_some, data_all}
 use Rattle.replies.specs.Reading.{Strides}
 
@@ -30,10 +30,6 @@ module _ (f : Form) where
     most = omega arith;
     leads = ap₂ walk rs rn ∙ sym e ∙ ap (λ (k : ℕ). walked f (On p) (take k xs)) (sym rn);
   }
-
-  pub stride_one : (p : Phase) (xs : List ℕ) (r : Walk) → 0 < length xs → r.step ≡ next f p (get_or xs 0 0) → r.used ≡ 1 → Strides f p xs r
-  stride_one p [] r some s n = absurd (omega arith)
-  stride_one p (x ∷ xs) r some s n = strides p (x ∷ xs) r (next f p x) 1 s n (omega arith) (omega arith) refl
 
   module _ (h c : ℕ) (xs : List ℕ) where
     -- fewer than are to come
@@ -57,9 +53,6 @@ abbrev pub Left : Form → Step → List ℕ → Step → ℕ → Type 0
 Left f s₀ xs s i = (reached f s₀ xs ≡ reached f s (drop i xs)) × (used f s₀ xs ≡ i + used f s (drop i xs))
 
 module _ (f : Form) (s₀ : Step) (xs : List ℕ) where
-  pub left_all : Left f s₀ xs s₀ 0
-  left_all = (refl, omega arith)
-
   -- behind the first n bytes of a rest
   split : (s : Step) (n : ℕ) (ys : List ℕ) → (reached f s ys ≡ reached f (reached f s (take n ys)) (drop n ys)) × (used f s ys ≡ used f s (take n ys) + used f (reached f s (take n ys)) (drop n ys))
   split s n ys =
@@ -83,8 +76,3 @@ module _ (f : Form) (s₀ : Step) (xs : List ℕ) where
   -- the reply is over, and the piece is
   pub left_over : (e : End) (i : ℕ) → Left f s₀ xs (Over e) i → walk (Over e) i ≡ walked f s₀ xs
   left_over e i left = sym (ap₂ walk (left.0 ∙ stays f e (drop i xs)) (omega (arith, left.1, no_more f e (drop i xs))))
-
-  pub left_none : (q : Phase) (i : ℕ) → length xs ≤ i → Left f s₀ xs (On q) i → walk (On q) i ≡ walked f s₀ xs
-  left_none q i l left =
-      let z = drop_of_length-le xs {i = i} l in
-      sym (ap₂ walk (left.0 ∙ ap (reached f (On q)) z) (omega (arith, left.1, ap (used f (On q)) z)))
