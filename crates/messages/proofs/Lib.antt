@@ -1,4 +1,0 @@
-pub mod Codes
-pub mod Plain
-pub mod Written
-pub mod Parts
