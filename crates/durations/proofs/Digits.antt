@@ -1,6 +1,6 @@
 -- Digits behind the point, one after the other.
 -- Assumes nothing.
-use Rattle.std.proofs.Common.{◌≡◌, ℕ, zero, suc, ◌+◌, ◌-◌, ◌*◌, ◌/◌, ◌%◌, ◌<◌, ◌≤◌, List, [], ◌∷◌, ◌++◌, length, take, set, sym, refl, ap, ◌∙◌, append_assoc, append-nil, lt_irrefl, add-one, arith, take-suc-set, eq-eqb, ne_eqb}
+use Rattle.std.proofs.Common.{◌≡◌, ℕ, zero, suc, ◌+◌, ◌-◌, ◌*◌, ◌/◌, ◌%◌, ◌<◌, List, [], ◌∷◌, ◌++◌, length, take, set, sym, refl, ap, ◌∙◌, append_assoc, append-nil, lt_irrefl, add-one, arith, take-suc-set, ne_eqb}
 use Rattle.lines.specs.Lines.{fore}
 use Rattle.text.specs.Writing.{Puts, word, number}
 use Rattle.text.proofs.Writing.{◌then◌, by}
@@ -18,16 +18,6 @@ module _ (size : ℕ) (digits : List ℕ) (same : size ≡ length digits) (i res
       rw (left, add-one i, take-suc-set digits i (48 + rest * 10 / 32) inside)
       (simp (ne_eqb rest 0 some) (append_assoc (take i digits) ((48 + rest * 10 / 32) ∷ []) (fraction (size - suc i) (rest * 10 % 32))))
 
-  -- nothing is left
-  pub digits_end : i < length digits → rest ≡ 0 → whole size digits i rest ≡ take i digits
-  digits_end inside none =
-      let left : size - i ≡ suc (size - suc i) = omega arith in
-      rw left (simp (eq-eqb rest 0 none) (append-nil (take i digits)))
-
-  -- no place is left
-  pub digits_full : length digits ≤ i → whole size digits i rest ≡ take i digits
-  digits_full h = let left : size - i ≡ 0 = omega arith in rw left (append-nil (take i digits))
-
 -- ---- milliseconds, by the number and the digits behind it
 
 -- digits behind a point
@@ -37,11 +27,7 @@ point (digit ∷ digits) zero long some = absurd (some refl)
 point (digit ∷ digits) (suc count) long some = refl
 
 module _ (t count : ℕ) (digits : List ℕ) (spelled : fore digits count ≡ behind_point t) where
-  -- no digit, no point
-  pub puts_whole : {n at r : ℕ} {text exit : List ℕ} → t ≡ n → count ≡ 0 → Puts text at (number (t / 32)) r exit → Puts text at (milliseconds_text n) r exit
-  puts_whole told none puts =
-      by milliseconds_text (sym told) (by (λ (l : List ℕ). number (t / 32) ++ pointed l) (sym spelled ∙ ap (fore digits) none) puts)
-
+  -- a point before digits
   pub puts_pointed : {n at next behind r : ℕ} {part text one two exit : List ℕ} → t ≡ n → 0 < length digits → (count ≡ 0 → ⊥) → part ≡ fore digits count
       → Puts text at (number (t / 32)) next one → Puts one next (word "." ∷ []) behind two → Puts two behind (part ∷ []) r exit
       → Puts text at (milliseconds_text n) r exit
