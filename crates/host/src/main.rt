@@ -6,10 +6,9 @@
 ghost use Rattle.std.specs.Prelude.{◌≤◌};
 
 use desk::Post;
-use std::env;
 use std::fs::File;
-use std::io;
 use std::io::{Read, Write};
+use std::{env, io};
 
 // Room for the longest line with a carriage return, and for one byte more, by which a longer line is known.
 const LINE: usize = desk::LONGEST + 2;
@@ -200,13 +199,30 @@ fn run<R: Read + Drop>(rt: &HostRuntime, input: R, name: &str, is_strict: bool) 
         if n == 0 {
             break;
         }
-        k = take_all(rt, &buffer[..n], k, &mut line, &mut bytes, &mut out, &mut room, &mut text);
+        k = take_all(
+            rt,
+            &buffer[..n],
+            k,
+            &mut line,
+            &mut bytes,
+            &mut out,
+            &mut room,
+            &mut text,
+        );
         if k.is_over {
             break;
         }
     }
     if k.n > 0 && !k.is_over {
-        k = answer(rt, k, lines::front(&line, k.n), &mut bytes, &mut out, &mut room, &mut text);
+        k = answer(
+            rt,
+            k,
+            lines::front(&line, k.n),
+            &mut bytes,
+            &mut out,
+            &mut room,
+            &mut text,
+        );
     }
     if is_strict && k.errors > 0 {
         tell_errors(rt, k.errors);

@@ -99,7 +99,11 @@ fn show(rt: &HostRuntime, name: &[u8], session: Session) -> io::Result<()> {
 
 fn main(rt: HostRuntime) -> io::Result<()> {
     show(&rt, b"IDN\n", awaiting(Kind::Idn, 0x00))?;
-    show(&rt, b"ProtocolSelect\n", awaiting(Kind::ProtocolSelect, 0x01))?;
+    show(
+        &rt,
+        b"ProtocolSelect\n",
+        awaiting(Kind::ProtocolSelect, 0x01),
+    )?;
     show(&rt, b"SendRecv\n", awaiting(Kind::SendRecv, 0x00))?;
     show(&rt, b"Idle\n", awaiting(Kind::Idle, 0x03))?;
     show(&rt, b"RdReg\n", awaiting(Kind::RdReg, 0x62))?;
