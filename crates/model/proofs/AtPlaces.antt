@@ -2,7 +2,7 @@
 -- Assumes nothing.
 use Prim.Native.Nat.{ℕ}
 use mathlib.Core.Path.{◌≡◌, refl}
-use mathlib.Core.List.{List, [], ◌∷◌, map}
+use mathlib.Core.List.{[], ◌∷◌, map}
 use Rattle.model.specs.declared.Flaw.TheVariants.{FirstByte, SecondByte, NoEvent, NotEnabled}
 use Rattle.model.specs.declared.Form.TheVariants.{Exactly, Counted, Awake, Single}
 use Rattle.model.specs.Refusals.{flaw_number}

@@ -1,6 +1,6 @@
 -- Three tests of the room that is left, and three copies, each behind the one before it.
 -- Assumes nothing.
-use Rattle.std.proofs.Common.{◌+◌, ◌≤◌, length, arith}
+use Rattle.std.proofs.Common.{arith}
 use Rattle.buffers.proofs.Laying.{laid_three}
 use Rattle.buffers.proofs.lay.Goals as goal
 

@@ -3,7 +3,6 @@
 use Rattle.std.proofs.Common.{sym, ap, ◌∙◌, subst}
 use Rattle.words.specs.Contract.{Ran, Is}
 use Rattle.model.specs.declared.State.{State}
-use Rattle.model.specs.declared.State.TheVariants.{Waiting}
 use Rattle.model.specs.declared.Outcome.{Outcome}
 use Rattle.session.proofs.Calls.{by_state, fed_some, reads}
 use Rattle.session.proofs.pieces.feed.Goals as goal
