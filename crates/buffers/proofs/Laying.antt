@@ -1,14 +1,13 @@
 -- Three parts laid at the front of a buffer, one behind the other.
 -- Assumes nothing.
-use Prim.Native.Nat.{ℕ, ◌+◌, ◌-◌, ◌≤◌, ◌<◌}
+use Prim.Native.Nat.{ℕ, ◌+◌, ◌-◌, ◌≤◌}
 use native.Mathlib.Omega.{arith}
-use mathlib.Core.Path.{◌≡◌, refl, sym, ap, ap₂, ◌∙◌}
+use mathlib.Core.Path.{◌≡◌, sym, ap, ap₂, ◌∙◌}
 use mathlib.Core.List.{List, [], ◌++◌}
 use lib.ListN.{length, drop, length-append, length-drop}
 use lib.Seq.{take-length, take-append_seam, drop-append-add, drop-drop}
-use borrow.Author.Tests.{lt-ltb, le-ltb}
+use borrow.Author.Tests.{le-ltb}
 use Rattle.words.specs.declared.Laid.{Laid}
-use Rattle.words.specs.declared.Laid.TheVariants.{Short}
 use Rattle.words.specs.Contract.{Is}
 use Rattle.words.specs.Words.{pasted, over, laid}
 use Rattle.buffers.proofs.Pasting.{fits}
@@ -30,9 +29,6 @@ over_more xs ys out h =
 module _ (a b d out : List ℕ) where
   count : length (a ++ b ++ d) ≡ length a + length b + length d
   count = simp (length-append (a ++ b) d, length-append a b)
-
-  pub laid_short : length out < length a + length b + length d → Is (laid (a ++ b ++ d) out) Short out
-  laid_short h = simp (lt-ltb (length out) (length (a ++ b ++ d)) (rw count h)) (record { answer = refl; bytes = refl })
 
   pub laid_three : (e₁ e₂ e₃ : List ℕ) → length a + length b + length d ≤ length out
       → e₁ ≡ pasted out a 0 → e₂ ≡ pasted e₁ b (length a) → e₃ ≡ pasted e₂ d (length a + length b)

@@ -1,3 +1,2 @@
 pub mod Names
 pub mod Named
-pub mod Telling

@@ -1,7 +1,7 @@
 -- Parts written one behind the other.
 -- Assumes nothing.
 use Prim.Native.Nat.{ℕ}
-use mathlib.Core.Path.{◌≡◌, refl, subst, subst⁻¹}
+use mathlib.Core.Path.{◌≡◌, subst, subst⁻¹}
 use mathlib.Core.List.{List, [], ◌∷◌, ◌++◌}
 use Rattle.words.specs.Contract.{Is}
 use Rattle.text.specs.Writing.{written, Puts, decimal, number}
@@ -20,10 +20,7 @@ pub ◌then◌ : {parts more : List (List ℕ)} {text between exit : List ℕ} {
     → Puts between next more r exit → Puts text at (parts ++ more) r exit
 ◌then◌ {parts} {more} {text} {at = at} first rest = record { is = joined parts more text at first.is rest.is }
 
--- no parts, and parts of a value that is known to be another
-pub puts_none : {text : List ℕ} {at : ℕ} → Puts text at [] at text
-puts_none = record { is = record { answer = refl; bytes = refl } }
-
+-- parts of a value that is known to be another
 pub by : {A : Type 0} (f : A → List (List ℕ)) {x y : A} {text exit : List ℕ} {at r : ℕ} → x ≡ y → Puts text at (f y) r exit → Puts text at (f x) r exit
 by f {text = text} {exit} {at} {r} e puts = subst⁻¹ (λ z. Puts text at (f z) r exit) e puts
 
