@@ -104,8 +104,8 @@ fn are_decimal(word: &[u8]) -> bool
 
 // The value of up to nine digits.
 fn value_of(word: &[u8]) -> usize
-    requires word_value { are_decimal word.now ≡ true }
-    requires word_len_bound { length word.now ≤ 9 }
+    requires digits { are_decimal word.now ≡ true }
+    requires at_most_nine { length word.now ≤ 9 }
     ensures { result ≡ value_of word.now }
 {
     let mut value: usize = 0;

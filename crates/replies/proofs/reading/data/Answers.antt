@@ -7,9 +7,9 @@ use Rattle.replies.proofs.reading.data.Goals as goal
 pub returns-then-want-got : goal.returns-then-want-got
 returns-then-want-got c form =
     let a = c.args in
-    stride_all form a.have a.count a.rest.now _ c.requires.have_lt_count c.requires.count_le_most_data (omega (arith, c.if-want-got.true)) refl refl
+    stride_all form a.have a.count a.rest.now _ c.requires.some_to_come c.requires.no_more_than_most (omega (arith, c.if-want-got.true)) refl refl
 
 pub returns : goal.returns
 returns c form =
     let a = c.args in
-    stride_part form a.have a.count a.rest.now _ c.requires.rest_nonzero c.requires.count_le_most_data (omega (arith, c.if-want-got.false)) refl refl
+    stride_part form a.have a.count a.rest.now _ c.requires.some_left c.requires.no_more_than_most (omega (arith, c.if-want-got.false)) refl refl

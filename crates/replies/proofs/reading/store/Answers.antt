@@ -23,21 +23,21 @@ module _ (w : Walk) (p : Phase) (xs : List ℕ) (by : (f : Form) × (w ≡ walke
 
 pub returns-then-to_keep-had : goal.returns-then-to_keep-had
 returns-then-to_keep-had c a =
-    (written c.args.walk c.args.phase c.args.piece.now c.requires.walk_value c.args.room.now).0
+    (written c.args.walk c.args.phase c.args.piece.now c.requires.is_walked c.args.room.now).0
     (omega (arith, c.if-to_keep-had.true, c.to_keep.ensures, c.stored-had.ensures)) a
 
 pub slice_bounds-copy_at-count : goal.slice_bounds-copy_at-count
 slice_bounds-copy_at-count c =
     let more : have c.args.phase < kept c.args.walk.step c.args.phase = omega (arith, c.if-to_keep-had.false, c.to_keep.ensures, c.stored-had.ensures) in
-    omega (arith, c.bytes_ahead-start.ensures, ((written c.args.walk c.args.phase c.args.piece.now c.requires.walk_value c.args.room.now).1 more).0)
+    omega (arith, c.bytes_ahead-start.ensures, ((written c.args.walk c.args.phase c.args.piece.now c.requires.is_walked c.args.room.now).1 more).0)
 
 pub slice_bounds-copy_at-start : goal.slice_bounds-copy_at-start
 slice_bounds-copy_at-start c =
     let more : have c.args.phase < kept c.args.walk.step c.args.phase = omega (arith, c.if-to_keep-had.false, c.to_keep.ensures, c.stored-had.ensures) in
-    omega (arith, c.bytes_ahead-start.ensures, ((written c.args.walk c.args.phase c.args.piece.now c.requires.walk_value c.args.room.now).1 more).0)
+    omega (arith, c.bytes_ahead-start.ensures, ((written c.args.walk c.args.phase c.args.piece.now c.requires.is_walked c.args.room.now).1 more).0)
 
 pub slice_bounds-copy_at-end : goal.slice_bounds-copy_at-end
-slice_bounds-copy_at-end c = most c.args.walk c.args.phase c.args.piece.now c.requires.walk_value
+slice_bounds-copy_at-end c = most c.args.walk c.args.phase c.args.piece.now c.requires.is_walked
 
 pub returns : goal.returns
 returns c a =
@@ -45,13 +45,13 @@ returns c a =
     let piece = c.args.piece.now in
     let room = c.args.room.now in
     let u = c.args.walk.used in
-    let by = c.requires.walk_value in
+    let by = c.requires.is_walked in
     let more : have phase < kept c.args.walk.step phase = omega (arith, c.if-to_keep-had.false, c.to_keep.ensures, c.stored-had.ensures) in
     let w = (written c.args.walk phase piece by room).1 more in
     let start = c.bytes_ahead-start.result in
     let put : c.copy_at.new.buffer ≡ pasted room (take (u - start) (drop start piece)) c.stored-had.result = c.copy_at.ensures in
     put
     ∙ ap₂ (λ (start h : ℕ). pasted room (take (u - start) (drop start piece)) h) c.bytes_ahead-start.ensures c.stored-had.ensures
-    ∙ copied room (drop (ahead phase) piece) (have phase) (u - ahead phase) (omega (arith, w.0, w.1, c.requires.least_room_in_bounds))
+    ∙ copied room (drop (ahead phase) piece) (have phase) (u - ahead phase) (omega (arith, w.0, w.1, c.requires.room_enough))
     (omega (arith, length-drop (ahead phase) piece, most c.args.walk phase piece by))
     ∙ w.2 a
