@@ -6,9 +6,10 @@
 ghost use Rattle.std.specs.Prelude.{◌≤◌};
 
 use desk::Post;
+use std::env::{Env, FillError};
 use std::fs::File;
 use std::io::{Read, Write};
-use std::{env, io};
+use std::{io, str};
 
 // Room for the longest line with a carriage return, and for one byte more, by which a longer line is known.
 const LINE: usize = desk::LONGEST + 2;
@@ -71,7 +72,7 @@ fn trimmed(line: &[u8]) -> &[u8] {
 
 // What failed, on standard error; where that fails too, nobody can be told.
 fn complain(rt: &HostRuntime, what: &str, error: &io::Error) {
-    let _told = eprintln!(rt; "host: {what}: {error}").is_ok();
+    let _told = eprintln!(rt; "{what}: {error}").is_ok();
 }
 
 // Writes an answer of n bytes, with a line end, and answers whether that was done.
@@ -83,7 +84,7 @@ fn tell(rt: &HostRuntime, text: &mut [u8], n: usize) -> bool {
     match rt.stdout().write_all(lines::front(text, end)) {
         Ok(()) => true,
         Err(error) => {
-            complain(rt, "standard output", &error);
+            complain(rt, "host: standard output", &error);
             false
         }
     }
@@ -229,31 +230,44 @@ fn run<R: Read + Drop>(rt: &HostRuntime, input: R, name: &str, is_strict: bool) 
     }
 }
 
-fn run_file(rt: &HostRuntime, path: &str, is_strict: bool) {
-    if path == "-" {
-        run(rt, rt.stdin(), "standard input", is_strict);
+fn run_file(rt: &HostRuntime, path: &[u8], is_strict: bool) {
+    if lines::are_same(path, b"-") {
+        run(rt, rt.stdin(), "host: standard input", is_strict);
         return;
     }
-    match File::open(rt, path) {
-        Ok(file) => run(rt, file, path, is_strict),
-        Err(error) => complain(rt, path, &error),
+    match str::from_utf8(path) {
+        Ok(name) => match File::open(rt, name) {
+            Ok(file) => run(rt, file, name, is_strict),
+            Err(error) => complain(rt, name, &error),
+        },
+        Err(_) => {
+            let error = io::Error::from(io::ErrorKind::InvalidInput);
+            complain(rt, "host: a file whose name is no UTF-8", &error);
+        }
     }
 }
 
-fn main(rt: HostRuntime) -> io::Result<()> {
-    let mut words = env::args(&rt)?;
-    let _program = words.next();
-    let mut word = words.next();
-    let is_strict = match &word {
-        Some(first) => first.as_str() == "--strict",
+// Room for the longest argument.
+const ARGUMENT: usize = 4096;
+
+// How long an argument is that stands at the front of the buffer then; 0 for one that it has no room for, and that names no file.
+fn argument(rt: &HostRuntime, place: usize, buffer: &mut [u8]) -> Option<usize> {
+    match rt.arg(place, buffer) {
+        Ok(n) => Some(n),
+        Err(FillError::NotPresent) => None,
+        Err(FillError::TooLong) => Some(0),
+    }
+}
+
+fn main(rt: HostRuntime) {
+    let mut word = [0u8; ARGUMENT];
+    let is_strict = match argument(&rt, 1, &mut word) {
+        Some(n) => lines::are_same(lines::front(&word, n), b"--strict"),
         None => false,
     };
-    if is_strict {
-        word = words.next();
+    let place = if is_strict { 2 } else { 1 };
+    match argument(&rt, place, &mut word) {
+        Some(n) => run_file(&rt, lines::front(&word, n), is_strict),
+        None => run_file(&rt, b"-", is_strict),
     }
-    match &word {
-        Some(path) => run_file(&rt, path.as_str(), is_strict),
-        None => run_file(&rt, "-", is_strict),
-    }
-    Ok(())
 }
