@@ -6,7 +6,7 @@ ghost use Rattle.std.specs.Prelude.{◌≡◌};
 ghost use Rattle.words.specs.Contract.{Is, on_front};
 ghost use Rattle.model.specs.Frames.{command, send_recv};
 ghost use Rattle.model.specs.Session.{request, feed, step, Meets};
-ghost use Rattle.stakes.specs.Stakes.{request as Stakes·request};
+ghost use Rattle.stakes.specs.Stakes as slots_asked;
 ghost use Rattle.calls.specs.Calls.{data_for};
 ghost use Rattle.acts.specs.Acts.{interface_of, plan_of, request_for, acted};
 
@@ -40,7 +40,7 @@ fn plan(prescaler: usize, given: &[u8]) -> Plan
     }
 }
 
-// spi is 0.
+// spi is 0: of a line a call has one number, whatever it stands for (`interfaced`).
 fn interface(number: usize) -> Interface
     ensures { result ≡ interface_of number }
 {
@@ -62,14 +62,15 @@ fn send(s: Session, kind: Kind, given: &[u8], out: &mut [u8]) -> Outcome
 
 // An inventory of so many slots.
 fn ask(s: Session, slots: Slots, out: &mut [u8]) -> Outcome
-    ensures { Meets s (request (send_recv (Stakes·request slots)) out.old) result out.new }
+    ensures { Meets s (request (send_recv (slots_asked.request slots)) out.old) result out.new }
 {
     let mut payload = [0u8; 3];
-    stakes::write(slots, &mut payload);
+    let _ = stakes::write(slots, &mut payload);
     requests::send_recv(s, &payload, out)
 }
 
-// An inventory by its number of slots. Of another number there is no request: bytes stand for it that no SendRecv takes.
+// An inventory by its number of slots. Of another number there is no request: bytes stand for it that no SendRecv takes, so that the session
+// refuses it, in the order of its own checks (`OtherSlots`).
 fn inventory(s: Session, number: usize, out: &mut [u8]) -> Outcome
     ensures { Meets s (request (send_recv (request_for number)) out.old) result out.new }
 {
@@ -79,10 +80,10 @@ fn inventory(s: Session, number: usize, out: &mut [u8]) -> Outcome
     if number == 16 {
         return ask(s, Slots::Sixteen, out);
     }
-    let none = [0u8; 256];
-    requests::send_recv(s, &none, out)
+    requests::send_recv(s, &[0; 256], out)
 }
 
+// A call, its number and its bytes go apart, here and in the desk: they are what reading found, taken apart once.
 fn act(what: Act, s: Session, number: usize, given: &[u8], out: &mut [u8]) -> Outcome
     ensures { Is (acted s what number given.now out.old) result out.new }
 {
@@ -99,7 +100,8 @@ fn act(what: Act, s: Session, number: usize, given: &[u8], out: &mut [u8]) -> Ou
     }
 }
 
-// An act on the first n bytes of the output.
+// An act on the first n bytes of the output. The front that is lent is a line here, in feed_on and in board; a closure over it would be no shorter.
+#[tactic(auto, using(std::proofs::lemmas::List::take_min, std::proofs::lemmas::List::drop_min))]
 pub fn act_on(
     what: Act,
     s: Session,
@@ -110,18 +112,15 @@ pub fn act_on(
 ) -> Outcome
     ensures { Is (on_front n out.old (λ front. acted s what number given.now front)) result out.new }
 {
-    if n <= out.len() {
-        return act(what, s, number, given, &mut out[0..n]);
-    }
-    act(what, s, number, given, out)
+    let n = n.min(out.len());
+    act(what, s, number, given, &mut out[..n])
 }
 
 // A piece of the awaited reply, with the first n bytes of the reply room.
+#[tactic(auto, using(std::proofs::lemmas::List::take_min, std::proofs::lemmas::List::drop_min))]
 pub fn feed_on(s: Session, piece: &[u8], room: &mut [u8], n: usize) -> Outcome
     ensures { Is (on_front n room.old (λ front. step s (feed piece.now front))) result room.new }
 {
-    if n <= room.len() {
-        return pieces::feed(s, piece, &mut room[0..n]);
-    }
-    pieces::feed(s, piece, room)
+    let n = n.min(room.len());
+    pieces::feed(s, piece, &mut room[..n])
 }

@@ -3,57 +3,59 @@
 #![tactic(auto)]
 
 ghost use Rattle.std.specs.Prelude.{[], ◌∷◌};
-ghost use Rattle.text.specs.Writing.{Puts, word, hex, hexes};
+ghost use Rattle.text.specs.Adding.{Adds};
+ghost use Rattle.text.specs.Writing.{word, hex, hexes};
 ghost use Rattle.refusals.specs.Refusals.{commands_text};
 ghost use Rattle.answers.specs.Answers.{wake_name, answer_text, held_text, used_text};
 
 use model::{Answer, Place, Wake};
+use text::Text;
 
-fn put_wake(text: &mut [u8], at: usize, wake: Wake) -> usize
-    ensures { Puts text.old at (wake_name wake ∷ []) result text.new }
+fn put_wake(text: &mut Text, wake: Wake)
+    ensures { Adds text.old (wake_name wake ∷ []) text.new }
 {
     match wake {
-        Wake::Timeout => text::put(text, at, b" timeout"),
-        Wake::Tag => text::put(text, at, b" tag"),
-        Wake::IrqIn => text::put(text, at, b" irq-in"),
-        Wake::SpiSs => text::put(text, at, b" spi-ss"),
+        Wake::Timeout => text.put(b" timeout"),
+        Wake::Tag => text.put(b" tag"),
+        Wake::IrqIn => text.put(b" irq-in"),
+        Wake::SpiSs => text.put(b" spi-ss"),
     }
 }
 
 // What woke the chip.
-fn put_woken(text: &mut [u8], wake: Wake) -> usize
-    ensures { Puts text.old 0 (word "woken" ∷ wake_name wake ∷ []) result text.new }
+fn put_woken(text: &mut Text, wake: Wake)
+    ensures { Adds text.old (word "woken" ∷ wake_name wake ∷ []) text.new }
 {
-    let next = text::put(text, 0, b"woken");
-    put_wake(text, next, wake)
+    text.put(b"woken");
+    put_wake(text, wake);
 }
 
 // The bytes that were sent.
-fn put_sent(text: &mut [u8], bytes: &[u8]) -> usize
-    ensures { Puts text.old 0 (word "sent" ∷ hexes bytes.now) result text.new }
+fn put_sent(text: &mut Text, bytes: &[u8])
+    ensures { Adds text.old (word "sent" ∷ hexes bytes.now) text.new }
 {
-    let next = text::put(text, 0, b"sent");
-    text::put_bytes(text, next, bytes)
+    text.put(b"sent");
+    text.put_bytes(bytes);
 }
 
 // The reference that a calibration found.
-fn put_reference(text: &mut [u8], reference: u8, commands: u8) -> usize
-    ensures { Puts text.old 0 (word "reference" ∷ hex reference ∷ commands_text commands) result text.new }
+fn put_reference(text: &mut Text, reference: u8, commands: u8)
+    ensures { Adds text.old (word "reference" ∷ hex reference ∷ commands_text commands) text.new }
 {
-    let next = text::put(text, 0, b"reference");
-    let next = text::put_byte(text, next, reference);
-    refusals::put_commands(text, next, commands)
+    text.put(b"reference");
+    text.put_byte(reference);
+    refusals::put_commands(text, commands);
 }
 
 // The answer itself; the bytes that were sent are at the front of out.
-pub fn put_answer(text: &mut [u8], answer: Answer, out: &[u8]) -> usize
-    ensures { Puts text.old 0 (answer_text answer out.now) result text.new }
+pub fn put_answer(text: &mut Text, answer: Answer, out: &[u8])
+    ensures { Adds text.old (answer_text answer out.now) text.new }
 {
     match answer {
-        Answer::Done => text::put(text, 0, b"ok"),
+        Answer::Done => text.put(b"ok"),
         Answer::Sent { count } => put_sent(text, lines::front(out, count)),
-        Answer::More => text::put(text, 0, b"more"),
-        Answer::Good => text::put(text, 0, b"good"),
+        Answer::More => text.put(b"more"),
+        Answer::Good => text.put(b"good"),
         Answer::Woken { wake } => put_woken(text, wake),
         Answer::Reference {
             reference,
@@ -64,32 +66,24 @@ pub fn put_answer(text: &mut [u8], answer: Answer, out: &[u8]) -> usize
 }
 
 // Bytes behind the name of the buffer that holds them; no bytes, no name.
-fn put_held(text: &mut [u8], at: usize, name: &[u8], bytes: &[u8]) -> usize
-    ensures { Puts text.old at (held_text name.now bytes.now) result text.new }
+fn put_held(text: &mut Text, name: &[u8], bytes: &[u8])
+    ensures { Adds text.old (held_text name.now bytes.now) text.new }
 {
-    if bytes.len() == 0 {
-        return at;
+    if !bytes.is_empty() {
+        text.put(name);
+        text.put_bytes(bytes);
     }
-    let next = text::put(text, at, name);
-    text::put_bytes(text, next, bytes)
 }
 
 // How much of a piece was used, and the data of the reply, with the buffer that holds them.
-pub fn put_used<'a>(
-    text: &mut [u8],
-    at: usize,
-    used: usize,
-    place: Place,
-    piece: &'a [u8],
-    room: &'a [u8],
-) -> usize
-    ensures { Puts text.old at (used_text used place piece.now room.now) result text.new }
+pub fn put_used<'a>(text: &mut Text, used: usize, place: Place, piece: &'a [u8], room: &'a [u8])
+    ensures { Adds text.old (used_text used place piece.now room.now) text.new }
 {
-    let next = text::put_count(text, at, b" used", used as u64);
+    text.put_count(b" used", used as u64);
     let part = replies::data_of(piece, room, place);
     match place {
-        Place::Nowhere => next,
-        Place::Piece { start: _, count: _ } => put_held(text, next, b" piece", part),
-        Place::Room { count: _ } => put_held(text, next, b" room", part),
+        Place::Nowhere => {}
+        Place::Piece { .. } => put_held(text, b" piece", part),
+        Place::Room { .. } => put_held(text, b" room", part),
     }
 }

@@ -1,2 +1,2 @@
-pub mod Names
+pub mod Table
 pub mod Named

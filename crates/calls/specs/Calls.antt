@@ -1,6 +1,6 @@
 -- The calls of a script: the table of their names, and what each takes behind its name.
 -- Assumes nothing.
-use Rattle.std.specs.Prelude.{ℕ, ◌+◌, List, [], ◌∷◌, get_or}
+use Rattle.std.specs.Prelude.{ℕ, List, [], ◌∷◌, get_or, Option, Some, None}
 use Prim.Native.String.{String}
 use Rattle.model.specs.declared.Kind.{Kind}
 use Rattle.model.specs.declared.Kind.TheVariants.{Idn, ProtocolSelect, SendRecv, Idle, RdReg, WrReg, Echo}
@@ -128,7 +128,7 @@ asked_by CalibrateTagDetecting = 24
 abbrev pub message_name : Message → List ℕ
 message_name message = name_of (asked_by message)
 
--- the number of a word: how many rows come before its own, or how many there are
-abbrev pub position : List ℕ → List Row → ℕ
-position w [] = 0
-position w (r ∷ rs) = pick (same w r.name) 0 (1 + position w rs)
+-- the call that a word names, and what it takes
+abbrev pub found : List ℕ → List Row → Option (Verb × Shape)
+found w [] = None
+found w (r ∷ rs) = pick (same w r.name) (Some (r.call, r.shape)) (found w rs)

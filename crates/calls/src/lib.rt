@@ -3,12 +3,11 @@
 #![tactic(auto)]
 
 ghost use Rattle.std.specs.Prelude.{◌≡◌, [], ◌∷◌};
-ghost use Rattle.words.specs.Words.{pick};
-ghost use Rattle.lines.specs.Lines.{byte_at, between, same};
-ghost use Rattle.text.specs.Writing.{Puts};
-ghost use Rattle.calls.specs.Calls.{rows, kind_name, message_name, position};
+ghost use Rattle.text.specs.Adding.{Adds};
+ghost use Rattle.calls.specs.Calls.{rows, kind_name, message_name, found};
 
 use model::{Kind, Message};
+use text::Text;
 
 // A call of the session that is fed nothing.
 #[derive(Clone, Copy)]
@@ -96,18 +95,19 @@ pub enum Fault {
     Above { given: usize, greatest: usize },
 }
 
-// A line read: a call with its number and how many bytes it has, or what is wrong. Places are counted from 0.
+// A line read as a call, with its number and how many bytes it has.
 #[derive(Clone, Copy)]
-pub enum Asked {
-    Understood {
-        call: Verb,
-        number: usize,
-        count: usize,
-    },
-    Wrong {
-        place: usize,
-        fault: Fault,
-    },
+pub struct Asked {
+    pub call: Verb,
+    pub number: usize,
+    pub count: usize,
+}
+
+// What is wrong, and at which place of the line. Places are counted from 0.
+#[derive(Clone, Copy)]
+pub struct Wrong {
+    pub place: usize,
+    pub fault: Fault,
 }
 
 // What a call takes behind its name.
@@ -123,134 +123,147 @@ pub enum Shape {
     Any,
 }
 
-// How many names there are.
-pub const CALLS: u8 = 36;
-
-// Puts the name of the call that sends a command.
-pub fn put_kind(text: &mut [u8], at: usize, kind: Kind) -> usize
-    ensures { Puts text.old at (kind_name kind ∷ []) result text.new }
+// Puts the name of the call that sends a command. Each kind of name has a function with its rows, here and elsewhere: no two have a row in common.
+pub fn put_kind(text: &mut Text, kind: Kind)
+    ensures { Adds text.old (kind_name kind ∷ []) text.new }
 {
     match kind {
-        Kind::Idn => text::put(text, at, b"idn"),
-        Kind::ProtocolSelect => text::put(text, at, b"select"),
-        Kind::SendRecv => text::put(text, at, b"send"),
-        Kind::Idle => text::put(text, at, b"idle"),
-        Kind::RdReg => text::put(text, at, b"rdreg"),
-        Kind::WrReg => text::put(text, at, b"wrreg"),
-        Kind::Echo => text::put(text, at, b"echo"),
+        Kind::Idn => text.put(b"idn"),
+        Kind::ProtocolSelect => text.put(b"select"),
+        Kind::SendRecv => text.put(b"send"),
+        Kind::Idle => text.put(b"idle"),
+        Kind::RdReg => text.put(b"rdreg"),
+        Kind::WrReg => text.put(b"wrreg"),
+        Kind::Echo => text.put(b"echo"),
     }
 }
 
 // Puts the name of the call that writes a command message.
-pub fn put_message(text: &mut [u8], at: usize, message: Message) -> usize
-    ensures { Puts text.old at (message_name message ∷ []) result text.new }
+pub fn put_message(text: &mut Text, message: Message)
+    ensures { Adds text.old (message_name message ∷ []) text.new }
 {
     match message {
-        Message::Idn => text::put(text, at, b"usb-idn"),
-        Message::GetFirmwareVersion => text::put(text, at, b"usb-firmware"),
-        Message::Inventory => text::put(text, at, b"usb-inventory"),
-        Message::GoToTagDetectingState => text::put(text, at, b"usb-detect"),
-        Message::IsWakeUp => text::put(text, at, b"usb-awake"),
-        Message::CalibrateTagDetecting => text::put(text, at, b"usb-calibrate"),
+        Message::Idn => text.put(b"usb-idn"),
+        Message::GetFirmwareVersion => text.put(b"usb-firmware"),
+        Message::Inventory => text.put(b"usb-inventory"),
+        Message::GoToTagDetectingState => text.put(b"usb-detect"),
+        Message::IsWakeUp => text.put(b"usb-awake"),
+        Message::CalibrateTagDetecting => text.put(b"usb-calibrate"),
     }
 }
 
-// A number if the word is its name, and otherwise another.
-fn either<'a>(word: &'a [u8], name: &'a [u8], k: u8, otherwise: u8) -> u8
-    ensures { result ≡ pick (same word.now name.now) k otherwise }
-{
-    if lines::are_same(word, name) {
-        return k;
-    }
-    otherwise
-}
+// The most that out and room can be.
+pub const LONGEST: usize = 600;
 
-// The number of a name that begins with u, by its fifth letter; usb has none, which is read as a blank.
-fn message_number(word: &[u8]) -> u8
-    requires { byte_at word.now 0 ≡ 117 }
-    ensures { result ≡ position word.now rows }
-{
-    let fifth = lines::at(word, 4);
-    match fifth {
-        b' ' => either(word, b"usb", 25, CALLS),
-        b'a' => either(
-            word,
-            b"usb-awake",
-            23,
-            either(word, b"usb-answer", 26, CALLS),
-        ),
-        b'c' => either(word, b"usb-calibrate", 24, CALLS),
-        b'd' => either(word, b"usb-detect", 22, CALLS),
-        b'e' => either(word, b"usb-error", 27, CALLS),
-        b'f' => either(word, b"usb-firmware", 20, CALLS),
-        b'i' => either(
-            word,
-            b"usb-idn",
-            19,
-            either(word, b"usb-inventory", 21, CALLS),
-        ),
-        b'r' => either(word, b"usb-reply", 28, CALLS),
-        _ => CALLS,
-    }
-}
+// A number with nine digits.
+const GREATEST: usize = 999999999;
 
-// The number of a name, by its first letter, or how many names there are for none.
-fn number(word: &[u8]) -> u8
-    ensures { result ≡ position word.now rows }
-{
-    let first = lines::at(word, 0);
-    match first {
-        b'b' => either(word, b"band", 15, CALLS),
-        b'c' => either(word, b"calibrate", 10, either(word, b"command", 16, CALLS)),
-        b'e' => either(word, b"echo", 6, CALLS),
-        b'f' => either(word, b"feed", 12, either(word, b"flags", 17, CALLS)),
-        b'h' => either(word, b"help", 35, CALLS),
-        b'i' => either(
-            word,
-            b"idn",
-            2,
-            either(word, b"idle", 5, either(word, b"inventory", 31, CALLS)),
-        ),
-        b'n' => either(word, b"next", 11, CALLS),
-        b'o' => either(word, b"out", 33, CALLS),
-        b'p' => either(
-            word,
-            b"power-on",
-            0,
-            either(word, b"pulse", 1, either(word, b"poll", 8, CALLS)),
-        ),
-        b'r' => either(
-            word,
-            b"reset",
-            7,
-            either(
-                word,
-                b"read",
-                9,
-                either(
-                    word,
-                    b"received",
-                    18,
-                    either(word, b"rdreg", 29, either(word, b"room", 34, CALLS)),
-                ),
-            ),
-        ),
-        b's' => either(
-            word,
-            b"select",
-            3,
-            either(word, b"send", 4, either(word, b"stake", 32, CALLS)),
-        ),
-        b't' => either(word, b"times", 13, CALLS),
-        b'u' => message_number(word),
-        b'w' => either(word, b"wait", 14, either(word, b"wrreg", 30, CALLS)),
-        _ => CALLS,
-    }
-}
+// What calls take, where several take the same or it is more than a word.
+const NUMBER: Shape = Shape::Numbered {
+    greatest: GREATEST,
+    wanted: 0,
+};
 
-// The number of the name that the line has from one place to another.
-pub fn number_of(line: &[u8], from: usize, end: usize) -> u8
-    ensures { result ≡ position (between line.now from end) rows }
+const LENGTH: Shape = Shape::Numbered {
+    greatest: LONGEST,
+    wanted: 0,
+};
+
+const PLAN: Shape = Shape::Numbered {
+    greatest: 255,
+    wanted: 10,
+};
+
+const SETTINGS: Shape = Shape::Exactly { wanted: 14 };
+
+const ONE: Shape = Shape::Exactly { wanted: 1 };
+
+const TWO: Shape = Shape::Exactly { wanted: 2 };
+
+const PROTOCOL: Shape = Shape::Led {
+    missing: Fault::NoProtocol,
+};
+
+const CODE: Shape = Shape::Led {
+    missing: Fault::NoCode,
+};
+
+// Each name, its call, and what this takes.
+static ROWS: [(&[u8], Verb, Shape); 36] = [
+    (b"power-on", Verb::Acts(Act::PowerOn), Shape::Interface),
+    (b"pulse", Verb::Acts(Act::Pulse), Shape::Nothing),
+    (b"idn", Verb::Acts(Act::Sends(Kind::Idn)), Shape::Nothing),
+    (
+        b"select",
+        Verb::Acts(Act::Sends(Kind::ProtocolSelect)),
+        PROTOCOL,
+    ),
+    (b"send", Verb::Acts(Act::Sends(Kind::SendRecv)), Shape::Any),
+    (b"idle", Verb::Acts(Act::Sends(Kind::Idle)), SETTINGS),
+    (b"echo", Verb::Acts(Act::Sends(Kind::Echo)), Shape::Nothing),
+    (b"reset", Verb::Acts(Act::Reset), Shape::Nothing),
+    (b"poll", Verb::Acts(Act::Poll), Shape::Nothing),
+    (b"read", Verb::Acts(Act::Read), NUMBER),
+    (b"calibrate", Verb::Acts(Act::Calibrate), PLAN),
+    (b"next", Verb::Acts(Act::Next), Shape::Nothing),
+    (b"feed", Verb::Feeds, Shape::Any),
+    (b"times", Verb::Tells(Question::Times), SETTINGS),
+    (b"wait", Verb::Tells(Question::Wait), SETTINGS),
+    (b"band", Verb::Tells(Question::Band), ONE),
+    (b"command", Verb::Tells(Question::Command), Shape::Any),
+    (b"flags", Verb::Tells(Question::Flags), ONE),
+    (b"received", Verb::Tells(Question::Received), Shape::Any),
+    (
+        b"usb-idn",
+        Verb::Speaks(Board::Asks(Message::Idn)),
+        Shape::Nothing,
+    ),
+    (
+        b"usb-firmware",
+        Verb::Speaks(Board::Asks(Message::GetFirmwareVersion)),
+        Shape::Nothing,
+    ),
+    (
+        b"usb-inventory",
+        Verb::Speaks(Board::Asks(Message::Inventory)),
+        ONE,
+    ),
+    (
+        b"usb-detect",
+        Verb::Speaks(Board::Asks(Message::GoToTagDetectingState)),
+        TWO,
+    ),
+    (
+        b"usb-awake",
+        Verb::Speaks(Board::Asks(Message::IsWakeUp)),
+        Shape::Nothing,
+    ),
+    (
+        b"usb-calibrate",
+        Verb::Speaks(Board::Asks(Message::CalibrateTagDetecting)),
+        Shape::Nothing,
+    ),
+    (b"usb", Verb::Speaks(Board::Reads), Shape::Any),
+    (b"usb-answer", Verb::Speaks(Board::Answers), CODE),
+    (b"usb-error", Verb::Speaks(Board::Fails), ONE),
+    (b"usb-reply", Verb::Speaks(Board::Replies), CODE),
+    (b"rdreg", Verb::Acts(Act::Sends(Kind::RdReg)), ONE),
+    (b"wrreg", Verb::Acts(Act::Sends(Kind::WrReg)), Shape::Any),
+    (b"inventory", Verb::Acts(Act::Inventory), NUMBER),
+    (b"stake", Verb::Tells(Question::Stake), Shape::Any),
+    (b"out", Verb::Sets(Buffer::Out), LENGTH),
+    (b"room", Verb::Sets(Buffer::Room), LENGTH),
+    (b"help", Verb::Helps, Shape::Nothing),
+];
+
+// The call that a word names, and what it takes.
+pub fn call_of(word: &[u8]) -> Option<(Verb, Shape)>
+    ensures { result ≡ found word.now rows }
 {
-    number(lines::after(lines::front(line, end), from))
+    for (name, call, shape) in &ROWS {
+        if lines::are_same(word, name) {
+            return Some((*call, *shape));
+        }
+    }
+    None
 }

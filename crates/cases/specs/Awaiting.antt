@@ -1,10 +1,8 @@
 -- Names that the cases share: bytes that all differ, what registers are given, the commands whose replies are awaited, answers and verdicts, and a frame read back as its command.
 -- Assumes nothing.
-use Rattle.std.specs.Prelude.{ℕ, zero, suc, ◌%◌, Bool, true, false, List, [], ◌∷◌, eqb}
+use Rattle.std.specs.Prelude.{ℕ, zero, suc, ◌%◌, Bool, true, false, List, [], ◌∷◌, eqb, Err, Ok, Result}
 use Rattle.model.specs.declared.Settings.{Settings}
 use Rattle.words.specs.declared.Part.{Part}
-use Rattle.model.specs.declared.Reading.{Reading}
-use Rattle.model.specs.declared.Reading.TheVariants.{Taken}
 use Rattle.model.specs.declared.Awaited.{Awaited}
 use Rattle.model.specs.declared.Wake.{Wake}
 use Rattle.model.specs.declared.Wake.TheVariants.{Timeout, Tag, IrqIn, SpiSs}
@@ -16,6 +14,8 @@ use Rattle.model.specs.Refusals.{number_of, values_of}
 use Rattle.model.specs.Frames.{Command, idn, protocol_select, send_recv, idle, rd_reg, wr_reg, echo, read_command}
 use Rattle.model.specs.Frames.{command_of as named_by}
 use Rattle.model.specs.Session.{awaited_of}
+use Rattle.model.specs.declared.Frame.{Frame}
+use Rattle.model.specs.declared.Refusal.{Refusal}
 
 -- so many bytes from one on, no two of 256 alike
 abbrev pub ascending : ℕ → ℕ → List ℕ
@@ -124,9 +124,9 @@ is_malformed Verdict.NoRoom = false
 
 -- ---- the command reader
 
-abbrev pub command_by : List ℕ → Reading → List Command
-command_by xs (Taken f) = named_by xs f ∷ []
-command_by xs (Reading.Refused k) = []
+abbrev pub command_by : List ℕ → Result Frame Refusal → List Command
+command_by xs (Ok f) = named_by xs f ∷ []
+command_by xs (Err k) = []
 
 -- the one command that bytes are read as, or none
 abbrev pub command_of : List ℕ → List Command
@@ -135,9 +135,9 @@ command_of xs = command_by xs (read_command xs)
 abbrev pub start_and_count : Part → List ℕ
 start_and_count p = p.start ∷ p.count ∷ []
 
-abbrev pub part_by : Reading → List ℕ
-part_by (Taken f) = start_and_count f.payload
-part_by (Reading.Refused k) = []
+abbrev pub part_by : Result Frame Refusal → List ℕ
+part_by (Ok f) = start_and_count f.payload
+part_by (Err k) = []
 
 -- where the data stand in a frame, and how many they are
 abbrev pub part_of : List ℕ → List ℕ

@@ -1,8 +1,7 @@
 -- Document 01, "Calibration" and refusal 11: the guard band of every reference.
 -- Assumes nothing.
-use Rattle.std.specs.Prelude.{ℕ, ◌≡◌, Bool, true, false, List, [], ◌∷◌, map}
-use Rattle.model.specs.declared.Guard.{Guard}
-use Rattle.model.specs.declared.Guard.TheVariants.{Band, NoBand}
+use Rattle.std.specs.Prelude.{ℕ, ◌≡◌, Bool, true, false, List, [], ◌∷◌, map, Option, Some, None}
+use Rattle.model.specs.declared.Band.{Band}
 use Rattle.model.specs.Refusals.{Number, none, number, band_number}
 use Rattle.words.specs.Words.{those}
 use Rattle.model.specs.Calibration.{band}
@@ -12,13 +11,13 @@ numbered none = []
 numbered (number n) = n ∷ []
 
 -- low and high, or the number of the refusal
-abbrev pub shown : Guard → List ℕ
-shown (Band low high) = low ∷ high ∷ numbered (band_number (Band low high))
-shown NoBand = numbered (band_number NoBand)
+abbrev pub shown : Option Band → List ℕ
+shown (Some b) = b.low ∷ b.high ∷ numbered (band_number (Some b))
+shown None = numbered (band_number None)
 
-abbrev pub is_band : Guard → Bool
-is_band (Band low high) = true
-is_band NoBand = false
+abbrev pub is_band : Option Band → Bool
+is_band (Some b) = true
+is_band None = false
 
 pub record Bands : Type 0 where
   pub ends :

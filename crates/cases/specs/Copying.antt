@@ -1,8 +1,6 @@
 -- The words that every section uses: a byte, its bits, a part of a list, a copy into a buffer, pieces joined.
 -- Assumes nothing.
-use Rattle.std.specs.Prelude.{ℕ, ◌≡◌, List, [], ◌∷◌, map}
-use Rattle.words.specs.declared.Laid.{Laid}
-use Rattle.words.specs.declared.Laid.TheVariants.{Short}
+use Rattle.std.specs.Prelude.{ℕ, ◌≡◌, List, [], ◌∷◌, map, None, Option, Some}
 use Rattle.words.specs.Words.{bit, within, pasted, laid, Bytes, concat, those}
 use Rattle.words.specs.Contract.{Ran}
 
@@ -24,7 +22,7 @@ Bits =
 
 -- ---- parts of a list
 
-abbrev pub lying : Laid → List ℕ → Ran Laid
+abbrev pub lying : Option ℕ → List ℕ → Ran (Option ℕ)
 lying answer bytes = record { answer = answer; bytes = bytes }
 
 abbrev pub held : List ℕ
@@ -45,7 +43,7 @@ Copies =
 abbrev pub Lays : Type 0
 Lays =
     map (λ (xs : List ℕ). laid xs held) ([] ∷ (0xC1 ∷ 0xC2 ∷ 0xC3 ∷ 0xC4 ∷ 0xC5 ∷ []) ∷ (0xC1 ∷ 0xC2 ∷ 0xC3 ∷ 0xC4 ∷ 0xC5 ∷ 0xC6 ∷ []) ∷ []) ≡
-    lying (Laid.Bytes 0) held ∷ lying (Laid.Bytes 5) (0xC1 ∷ 0xC2 ∷ 0xC3 ∷ 0xC4 ∷ 0xC5 ∷ []) ∷ lying Short held ∷ []
+    lying (Some 0) held ∷ lying (Some 5) (0xC1 ∷ 0xC2 ∷ 0xC3 ∷ 0xC4 ∷ 0xC5 ∷ []) ∷ lying None held ∷ []
 
 abbrev pub Joined : Type 0
 Joined = concat ((0xB0 ∷ []) ∷ [] ∷ (0xB1 ∷ 0xB2 ∷ []) ∷ []) ≡ 0xB0 ∷ 0xB1 ∷ 0xB2 ∷ []

@@ -1,18 +1,17 @@
 -- Document 01, "Calibration" and refusals 5, 8, 9, 10 and 12: how a calibration goes on, how it ends, and the session that it leaves.
 -- Assumes nothing.
-use Rattle.std.specs.Prelude.{ℕ, ◌≡◌, List, [], ◌∷◌, ◌++◌, map}
+use Rattle.std.specs.Prelude.{ℕ, ◌≡◌, List, [], ◌∷◌, ◌++◌, map, None}
 use Rattle.model.specs.declared.Interface.{Interface}
 use Rattle.model.specs.declared.Interface.TheVariants.{Spi}
 use Rattle.model.specs.declared.Place.{Place}
 use Rattle.model.specs.declared.Place.TheVariants.{Nowhere, Piece}
 use Rattle.model.specs.declared.Phase.TheVariants.{Begun, Counting, Waking}
-use Rattle.model.specs.declared.Calibration.TheVariants.{Off, On}
 use Rattle.model.specs.declared.State.{State}
 use Rattle.model.specs.declared.State.TheVariants.{PowerUp, Ready, Selected, Waiting, Lost}
 use Rattle.model.specs.declared.Session.{Session}
 use Rattle.model.specs.declared.Outcome.{Outcome}
 use Rattle.model.specs.Replies.{at}
-use Rattle.model.specs.Calibration.{search}
+use Rattle.model.specs.Calibration.{search, searching}
 use Rattle.model.specs.Session.{made, Call, power_on, pulse, reset, calibrate, next, feed, step}
 use Rattle.cases.specs.Awaiting.{to_idle, told_by}
 use Rattle.cases.specs.Starred.{room}
@@ -42,7 +41,7 @@ at_zero = begun ++ tags ++ times_out ++ times_out ++ times_out ++ times_out ++ t
 
 -- the session with the newest command's number and level, or with the level that is due
 abbrev pub running : Interface → State → ℕ → ℕ → Session
-running i state commands level = made i state (On (planned 3) (search commands level))
+running i state commands level = made i state (searching (planned 3) (search commands level))
 
 -- a reply to Idle with source C3 is awaited, with the protocol that was selected
 abbrev pub awaits : ℕ → State
@@ -89,30 +88,30 @@ pub record Ends : Type 0 where
   -- 8, 9, 10: Ready, with the event as data
   pub by_an_answer : (i : Interface) →
       ends i begun (event 0x01) ∷ ends i (begun ++ tags) (event 0x02) ∷ ends i at_zero (event 0x01) ∷ [] ≡
-      ended (made i Ready Off) (8 ∷ 1 ∷ []) 3 (Piece 2 1) ∷ ended (made i Ready Off) (9 ∷ 2 ∷ []) 3 (Piece 2 1) ∷
-      ended (made i Ready Off) (10 ∷ 8 ∷ []) 3 (Piece 2 1) ∷ []
+      ended (made i Ready None) (8 ∷ 1 ∷ []) 3 (Piece 2 1) ∷ ended (made i Ready None) (9 ∷ 2 ∷ []) 3 (Piece 2 1) ∷
+      ended (made i Ready None) (10 ∷ 8 ∷ []) 3 (Piece 2 1) ∷ []
   -- 12: the very code, and the state before: that of the first command is Selected 3
   pub by_an_error : (i : Interface) →
       ends i begun (code 0x87) ∷ ends i (begun ++ tags) (code 0x8C) ∷ ends i (begun ++ tags ++ times_out) (code 0x83) ∷ ends i at_sixty (code 0x85) ∷ [] ≡
-      ended (made i (Selected 3) Off) (12 ∷ 0x87 ∷ 1 ∷ []) 2 Nowhere ∷ ended (made i Ready Off) (12 ∷ 0x8C ∷ 2 ∷ []) 2 Nowhere ∷
-      ended (made i Ready Off) (12 ∷ 0x83 ∷ 3 ∷ []) 2 Nowhere ∷ ended (made i Ready Off) (12 ∷ 0x85 ∷ 8 ∷ []) 2 Nowhere ∷ []
+      ended (made i (Selected 3) None) (12 ∷ 0x87 ∷ 1 ∷ []) 2 Nowhere ∷ ended (made i Ready None) (12 ∷ 0x8C ∷ 2 ∷ []) 2 Nowhere ∷
+      ended (made i Ready None) (12 ∷ 0x83 ∷ 3 ∷ []) 2 Nowhere ∷ ended (made i Ready None) (12 ∷ 0x85 ∷ 8 ∷ []) 2 Nowhere ∷ []
   -- 5
   pub by_a_malformed_byte : (i : Interface) →
       ends i begun (event 0x08) ∷ ends i (begun ++ tags) (0x00 ∷ 0x02 ∷ []) ∷ ends i at_sixty (0x55 ∷ []) ∷ [] ≡
-      ended (made i Lost Off) (5 ∷ []) 3 Nowhere ∷ ended (made i Lost Off) (5 ∷ []) 2 Nowhere ∷ ended (made i Lost Off) (5 ∷ []) 1 Nowhere ∷ []
+      ended (made i Lost None) (5 ∷ []) 3 Nowhere ∷ ended (made i Lost None) (5 ∷ []) 2 Nowhere ∷ ended (made i Lost None) (5 ∷ []) 1 Nowhere ∷ []
   pub by_a_reference : (i : Interface) →
       ends i at_sixty (event 0x02) ∷ ends i at_sixty (event 0x01) ∷ ends i at_zero (event 0x02) ∷ [] ≡
-      ended (made i Ready Off) (0 ∷ 0x60 ∷ 8 ∷ []) 3 (Piece 2 1) ∷ ended (made i Ready Off) (0 ∷ 0x5C ∷ 8 ∷ []) 3 (Piece 2 1) ∷
-      ended (made i Ready Off) (0 ∷ 0x00 ∷ 8 ∷ []) 3 (Piece 2 1) ∷ []
+      ended (made i Ready None) (0 ∷ 0x60 ∷ 8 ∷ []) 3 (Piece 2 1) ∷ ended (made i Ready None) (0 ∷ 0x5C ∷ 8 ∷ []) 3 (Piece 2 1) ∷
+      ended (made i Ready None) (0 ∷ 0x00 ∷ 8 ∷ []) 3 (Piece 2 1) ∷ []
   -- with the reply cut
   pub cut : (i : Interface) →
       ends i (begun ++ feed (0x00 ∷ []) room ∷ []) (0x01 ∷ 0x01 ∷ []) ∷ ends i (begun ++ feed (0x00 ∷ 0x01 ∷ []) room ∷ []) (0x02 ∷ []) ∷
       ends i (begun ++ tags ++ feed (0x8A ∷ []) room ∷ []) (0x00 ∷ []) ∷ [] ≡
-      ended (made i Ready Off) (8 ∷ 1 ∷ []) 2 (Piece 1 1) ∷ ended (running i Ready 1 0xFC) [] 1 (Piece 0 1) ∷
-      ended (made i Ready Off) (12 ∷ 0x8A ∷ 2 ∷ []) 1 Nowhere ∷ []
+      ended (made i Ready None) (8 ∷ 1 ∷ []) 2 (Piece 1 1) ∷ ended (running i Ready 1 0xFC) [] 1 (Piece 0 1) ∷
+      ended (made i Ready None) (12 ∷ 0x8A ∷ 2 ∷ []) 1 Nowhere ∷ []
   -- a power-on drops it, and a pulse does not
-  pub by_power : (i : Interface) → (after i (begun ++ power_on i ∷ [])).session ≡ made i PowerUp Off
+  pub by_power : (i : Interface) → (after i (begun ++ power_on i ∷ [])).session ≡ made i PowerUp None
   pub not_by_a_pulse : (i : Interface) → (after i (begun ++ pulse ∷ [])).session ≡ running i (awaits 3) 1 0x00
 
 abbrev pub EveryEnd : Type 0
-EveryEnd = GoesOn × Ends × ((after Spi (begun ++ tag ++ reset room ∷ [])).session ≡ made Spi PowerUp Off)
+EveryEnd = GoesOn × Ends × ((after Spi (begun ++ tag ++ reset room ∷ [])).session ≡ made Spi PowerUp None)

@@ -1,14 +1,11 @@
 -- Document 01, "Command frames": frames whose bytes all differ, written and read back, and what the reader refuses beside them.
 -- Assumes nothing.
-use Rattle.std.specs.Prelude.{ℕ, ◌+◌, ◌*◌, ◌%◌, ◌≡◌, true, false, ◌&&◌, List, [], ◌∷◌, ◌++◌, map, ltb, leb, eqb, replicate}
+use Rattle.std.specs.Prelude.{ℕ, ◌+◌, ◌*◌, ◌%◌, ◌≡◌, true, false, ◌&&◌, List, [], ◌∷◌, ◌++◌, map, ltb, leb, eqb, replicate, Err, Ok}
 use Rattle.model.specs.declared.Interface.TheVariants.{Spi, Uart}
 use Rattle.model.specs.declared.Settings.{Settings}
 use Rattle.model.specs.declared.Kind.{Kind}
 use Rattle.model.specs.declared.Kind.TheVariants.{Idn, ProtocolSelect, Idle, Echo}
 use Rattle.model.specs.declared.Refusal.TheVariants.{Short, Invalid}
-use Rattle.model.specs.declared.Reading.{Reading}
-use Rattle.model.specs.declared.Written.{Written}
-use Rattle.model.specs.declared.Written.TheVariants.{Sent}
 use Rattle.words.specs.Words.{those}
 use Rattle.model.specs.Frames.{Command, idn, protocol_select, send_recv, idle, echo, prescaler, source_allowed, settings_allowed, allowed, permits, send, reset, poll, read, bytes, permitted, write, received, flags, settings, read_command}
 use Rattle.cases.specs.Awaiting.{command_of, part_of}
@@ -96,14 +93,14 @@ RefusedBeside =
     (0x07 ∷ 0x0D ∷ 0x01 ∷ replicate 12 0x00) ∷ (0x07 ∷ 0x0F ∷ 0x01 ∷ replicate 14 0x00) ∷ (0x07 ∷ 0x00 ∷ []) ∷ (0x01 ∷ 0x0E ∷ distinct_data) ∷
     -- 55 is a frame by itself alone, and no other byte is
     (0x54 ∷ []) ∷ (0x56 ∷ []) ∷ (0x00 ∷ []) ∷ (0xFF ∷ []) ∷ [])
-    ≡ replicate 26 (Reading.Refused Invalid)
+    ≡ replicate 26 (Err Invalid)
 
 -- the data of IDN, of ProtocolSelect and of Idle behind such a byte; those of registers are tried behind each of 256 (Registers)
 abbrev pub RefusedCodes : Type 0
 RefusedCodes =
     map read_command (
     behind strange_codes (0x00 ∷ []) ++ behind strange_codes (0x03 ∷ 0x03 ∷ 0x91 ∷ 0x92 ∷ []) ++ behind strange_codes (0x0E ∷ distinct_data))
-    ≡ replicate 30 (Reading.Refused Invalid)
+    ≡ replicate 30 (Err Invalid)
 
 -- ---- the field rules
 
@@ -174,16 +171,16 @@ output = 0xB0 ∷ 0xB1 ∷ 0xB2 ∷ 0xB3 ∷ 0xB4 ∷ 0xB5 ∷ []
 
 pub record Written-bytes : Type 0 where
   pub uart :
-      write Uart (send (send_recv (0x26 ∷ 0x27 ∷ []))) output ≡ ran (Sent 4) (0x04 ∷ 0x02 ∷ 0x26 ∷ 0x27 ∷ 0xB4 ∷ 0xB5 ∷ [])
+      write Uart (send (send_recv (0x26 ∷ 0x27 ∷ []))) output ≡ ran (Ok 4) (0x04 ∷ 0x02 ∷ 0x26 ∷ 0x27 ∷ 0xB4 ∷ 0xB5 ∷ [])
   pub spi :
-      write Spi (send (send_recv (0x26 ∷ 0x27 ∷ []))) output ≡ ran (Sent 5) (0x00 ∷ 0x04 ∷ 0x02 ∷ 0x26 ∷ 0x27 ∷ 0xB5 ∷ [])
+      write Spi (send (send_recv (0x26 ∷ 0x27 ∷ []))) output ≡ ran (Ok 5) (0x00 ∷ 0x04 ∷ 0x02 ∷ 0x26 ∷ 0x27 ∷ 0xB5 ∷ [])
   pub filled :
-      write Spi (send (send_recv (0x26 ∷ 0x27 ∷ 0x28 ∷ []))) output ≡ ran (Sent 6) (0x00 ∷ 0x04 ∷ 0x03 ∷ 0x26 ∷ 0x27 ∷ 0x28 ∷ [])
-  pub too_short : write Spi (send (send_recv (0x26 ∷ 0x27 ∷ 0x28 ∷ 0x29 ∷ []))) output ≡ ran (Written.Refused Short) output
-  pub not_allowed : write Spi (send (protocol_select 5 (0x26 ∷ []))) output ≡ ran (Written.Refused Invalid) output
-  pub reset_byte : write Spi reset output ≡ ran (Sent 1) (0x01 ∷ 0xB1 ∷ 0xB2 ∷ 0xB3 ∷ 0xB4 ∷ 0xB5 ∷ [])
-  pub poll_bytes : write Spi poll output ≡ ran (Sent 2) (0x03 ∷ 0x03 ∷ 0xB2 ∷ 0xB3 ∷ 0xB4 ∷ 0xB5 ∷ [])
-  pub read_bytes : write Spi (read 3) output ≡ ran (Sent 4) (0x02 ∷ 0x00 ∷ 0x00 ∷ 0x00 ∷ 0xB4 ∷ 0xB5 ∷ [])
+      write Spi (send (send_recv (0x26 ∷ 0x27 ∷ 0x28 ∷ []))) output ≡ ran (Ok 6) (0x00 ∷ 0x04 ∷ 0x03 ∷ 0x26 ∷ 0x27 ∷ 0x28 ∷ [])
+  pub too_short : write Spi (send (send_recv (0x26 ∷ 0x27 ∷ 0x28 ∷ 0x29 ∷ []))) output ≡ ran (Err Short) output
+  pub not_allowed : write Spi (send (protocol_select 5 (0x26 ∷ []))) output ≡ ran (Err Invalid) output
+  pub reset_byte : write Spi reset output ≡ ran (Ok 1) (0x01 ∷ 0xB1 ∷ 0xB2 ∷ 0xB3 ∷ 0xB4 ∷ 0xB5 ∷ [])
+  pub poll_bytes : write Spi poll output ≡ ran (Ok 2) (0x03 ∷ 0x03 ∷ 0xB2 ∷ 0xB3 ∷ 0xB4 ∷ 0xB5 ∷ [])
+  pub read_bytes : write Spi (read 3) output ≡ ran (Ok 4) (0x02 ∷ 0x00 ∷ 0x00 ∷ 0x00 ∷ 0xB4 ∷ 0xB5 ∷ [])
 
 -- ---- what comes back
 

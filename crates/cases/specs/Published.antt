@@ -1,19 +1,13 @@
 -- Frames that the maker prints (000, section 5; 002, section 2), what the reader refuses beside them, and the numbers of the refusals.
 -- Assumes nothing.
-use Rattle.std.specs.Prelude.{ℕ, ◌≡◌, Bool, true, false, List, [], ◌∷◌, map, replicate}
+use Rattle.std.specs.Prelude.{ℕ, ◌≡◌, Bool, true, false, List, [], ◌∷◌, map, replicate, Err, Ok, Result}
 use Rattle.model.specs.declared.Interface.TheVariants.{Spi, Uart}
 use Rattle.model.specs.declared.Refusal.{Refusal}
 use Rattle.model.specs.declared.Refusal.TheVariants.{Short, Invalid, Unready, Busy, Malformed, Unawaited, ChipError, LowestTimeout, HighestTag, NoLevel, CalibrationError}
 use Rattle.model.specs.declared.Wake.TheVariants.{Tag}
 use Rattle.model.specs.declared.Answer.{Answer}
 use Rattle.model.specs.declared.Settings.{Settings}
-use Rattle.model.specs.declared.Reading.{Reading}
-use Rattle.model.specs.declared.Reading.TheVariants.{Taken}
-use Rattle.model.specs.declared.Written.{Written}
-use Rattle.model.specs.declared.Written.TheVariants.{Sent}
 use Rattle.model.specs.declared.Wait.TheVariants.{Endless, After}
-use Rattle.model.specs.declared.Waited.{Waited}
-use Rattle.model.specs.declared.Timing.{Timing}
 use Rattle.words.specs.Contract.{Ran}
 use Rattle.model.specs.Refusals.{number_of, values_of, silent, ended, report_of, none, number, number_in, values_in}
 use Rattle.words.specs.Words.{those}
@@ -22,6 +16,7 @@ use Rattle.model.specs.Checks.{is_mild}
 use Rattle.model.specs.Times.{times_of, wait_of}
 use Rattle.cases.specs.Awaiting.{sleeping}
 use Rattle.cases.specs.Starred.{calibrating, longest, ms}
+use Rattle.model.specs.declared.Frame.{Frame}
 
 -- ---- frames
 
@@ -52,9 +47,9 @@ Frames =
 
 -- ---- the reader
 
-abbrev pub is_taken : Reading → Bool
-is_taken (Taken f) = true
-is_taken (Reading.Refused k) = false
+abbrev pub is_taken : Result Frame Refusal → Bool
+is_taken (Ok f) = true
+is_taken (Err k) = false
 
 -- the data of the timer's Idle command of 002, with a WU source, DacDataL and DacDataH
 abbrev pub timer : ℕ → ℕ → ℕ → List ℕ
@@ -88,7 +83,7 @@ Refused =
     -- 002 prints this one a byte short
     (0x07 ∷ 0x0E ∷ 0x08 ∷ 0x04 ∷ 0x00 ∷ 0x04 ∷ 0x00 ∷ 0x18 ∷ 0x00 ∷ 0x00 ∷ 0x00 ∷ 0x00 ∷ 0x00 ∷ 0x00 ∷ 0x00 ∷ []) ∷
     (0x07 ∷ 0x0D ∷ replicate 13 0x01) ∷ (0x07 ∷ 0x0F ∷ replicate 15 0x01) ∷ (0x04 ∷ 256 ∷ replicate 256 0x00) ∷ [])
-    ≡ replicate 25 (Reading.Refused Invalid)
+    ≡ replicate 25 (Err Invalid)
 
 -- ---- transfers
 
@@ -98,23 +93,23 @@ Transfers =
     (0x00 ∷ 0x55 ∷ []) ∷ (0x01 ∷ []) ∷ (0x03 ∷ 0x03 ∷ []) ∷ (0x02 ∷ 0x00 ∷ 0x00 ∷ 0x00 ∷ []) ∷ []
 
 -- an answer, and the output after it
-abbrev pub ran : Written → List ℕ → Ran Written
+abbrev pub ran : Result ℕ Refusal → List ℕ → Ran (Result ℕ Refusal)
 ran a xs = record { answer = a; bytes = xs }
 
 pub record Outputs : Type 0 where
-  pub past_the_bytes : write Uart (send idn) (9 ∷ 9 ∷ 9 ∷ []) ≡ ran (Sent 2) (0x01 ∷ 0x00 ∷ 9 ∷ [])
-  pub just_enough : write Spi (send idn) (9 ∷ 9 ∷ 9 ∷ []) ≡ ran (Sent 3) (0x00 ∷ 0x01 ∷ 0x00 ∷ [])
-  pub spi_byte_counts : write Spi (send idn) (9 ∷ 9 ∷ []) ≡ ran (Written.Refused Short) (9 ∷ 9 ∷ [])
-  pub rule_before_room : write Uart (send (protocol_select 5 (0 ∷ []))) [] ≡ ran (Written.Refused Invalid) []
-  pub nine_parameters : write Uart (send (protocol_select 1 (replicate 9 0))) (9 ∷ []) ≡ ran (Written.Refused Invalid) (9 ∷ [])
-  pub too_much : write Uart (send (send_recv (replicate 256 0))) [] ≡ ran (Written.Refused Invalid) []
-  pub one_to_read : write Spi (read 1) (9 ∷ 9 ∷ 9 ∷ []) ≡ ran (Sent 2) (0x02 ∷ 0x00 ∷ 9 ∷ [])
-  pub none_to_read : write Spi (read 0) [] ≡ ran (Written.Refused Invalid) []
-  pub too_much_to_read : write Spi (read 531) [] ≡ ran (Written.Refused Invalid) []
-  pub most_to_read : write Spi (read 530) [] ≡ ran (Written.Refused Short) []
-  pub uart_has_no_reset : write Uart reset (9 ∷ []) ≡ ran (Written.Refused Invalid) (9 ∷ [])
-  pub uart_has_no_poll : write Uart poll (9 ∷ []) ≡ ran (Written.Refused Invalid) (9 ∷ [])
-  pub uart_has_no_read : write Uart (read 1) (9 ∷ []) ≡ ran (Written.Refused Invalid) (9 ∷ [])
+  pub past_the_bytes : write Uart (send idn) (9 ∷ 9 ∷ 9 ∷ []) ≡ ran (Ok 2) (0x01 ∷ 0x00 ∷ 9 ∷ [])
+  pub just_enough : write Spi (send idn) (9 ∷ 9 ∷ 9 ∷ []) ≡ ran (Ok 3) (0x00 ∷ 0x01 ∷ 0x00 ∷ [])
+  pub spi_byte_counts : write Spi (send idn) (9 ∷ 9 ∷ []) ≡ ran (Err Short) (9 ∷ 9 ∷ [])
+  pub rule_before_room : write Uart (send (protocol_select 5 (0 ∷ []))) [] ≡ ran (Err Invalid) []
+  pub nine_parameters : write Uart (send (protocol_select 1 (replicate 9 0))) (9 ∷ []) ≡ ran (Err Invalid) (9 ∷ [])
+  pub too_much : write Uart (send (send_recv (replicate 256 0))) [] ≡ ran (Err Invalid) []
+  pub one_to_read : write Spi (read 1) (9 ∷ 9 ∷ 9 ∷ []) ≡ ran (Ok 2) (0x02 ∷ 0x00 ∷ 9 ∷ [])
+  pub none_to_read : write Spi (read 0) [] ≡ ran (Err Invalid) []
+  pub too_much_to_read : write Spi (read 531) [] ≡ ran (Err Invalid) []
+  pub most_to_read : write Spi (read 530) [] ≡ ran (Err Short) []
+  pub uart_has_no_reset : write Uart reset (9 ∷ []) ≡ ran (Err Invalid) (9 ∷ [])
+  pub uart_has_no_poll : write Uart poll (9 ∷ []) ≡ ran (Err Invalid) (9 ∷ [])
+  pub uart_has_no_read : write Uart (read 1) (9 ∷ []) ≡ ran (Err Invalid) (9 ∷ [])
 
 abbrev pub Received : Type 0
 Received = map received ((0x00 ∷ 0x08 ∷ []) ∷ (0x00 ∷ []) ∷ [] ∷ []) ≡ (0x08 ∷ []) ∷ [] ∷ [] ∷ []
@@ -126,11 +121,11 @@ abbrev pub Prescalers : Type 0
 Prescalers = map prescaler (0x3F ∷ 0x40 ∷ 0x7F ∷ 0x80 ∷ 0xBF ∷ 0xC0 ∷ 0xFF ∷ 0x140 ∷ []) ≡ 0 ∷ 1 ∷ 1 ∷ 2 ∷ 2 ∷ 3 ∷ 3 ∷ 1 ∷ []
 
 pub record Waits : Type 0 where
-  pub at_a_level : wait_of (calibrating 0xFC) ≡ Waited.Known (After (ms 528))
-  pub at_most : wait_of longest ≡ Waited.Known (After (ms 4194304))
-  pub without_end : wait_of hibernate ≡ Waited.Known Endless
-  pub no_source : wait_of sourceless ≡ Waited.Refused Invalid
-  pub no_times : times_of sourceless ≡ Timing.Refused Invalid
+  pub at_a_level : wait_of (calibrating 0xFC) ≡ Ok (After (ms 528))
+  pub at_most : wait_of longest ≡ Ok (After (ms 4194304))
+  pub without_end : wait_of hibernate ≡ Ok Endless
+  pub no_source : wait_of sourceless ≡ Err Invalid
+  pub no_times : times_of sourceless ≡ Err Invalid
 
 -- ---- the numbers of the refusals
 

@@ -5,7 +5,6 @@ use Prim.Native.Char.{code}
 use Prim.Native.String.{String, [] as nothing, ◌∷◌ as ◌then◌}
 use Rattle.model.specs.declared.Interface.{Interface}
 use Rattle.model.specs.declared.Interface.TheVariants.{Spi, Uart}
-use Rattle.model.specs.declared.Calibration.TheVariants.{On}
 use Rattle.model.specs.declared.State.{State}
 use Rattle.model.specs.declared.State.TheVariants.{PowerUp, Ready, Selected, Waiting, Lost}
 use Rattle.model.specs.declared.Session.{Session}
@@ -13,7 +12,7 @@ use Rattle.model.specs.declared.Answer.{Answer}
 use Rattle.words.specs.Words.{pick}
 use Rattle.model.specs.Frames.{idn, protocol_select, send_recv, idle, rd_reg, wr_reg, echo}
 use Rattle.model.specs.Replies.{begun}
-use Rattle.model.specs.Calibration.{search}
+use Rattle.model.specs.Calibration.{search, searching}
 use Rattle.model.specs.Session.{made, awaited_of, Call, pulse, request, reset, poll, read, calibrate, next, feed, step}
 use Rattle.cases.specs.Awaiting.{index, tuning, window, to_idn, to_select, to_idle, to_read, to_write, to_echo, told_by}
 use Rattle.cases.specs.Starred.{room}
@@ -187,8 +186,8 @@ pub record Short : Type 0 where
 -- records that no call made, with a calibration that runs in Power-up, Selected 2 and Lost, and in Ready after its eighth command
 abbrev pub strange : List Session
 strange =
-    map (λ (state : State). made Uart state (On (planned 3) (search 3 0x7C))) (PowerUp ∷ Selected 2 ∷ Lost ∷ []) ++
-    made Uart Ready (On (planned 3) (search 8 0x7C)) ∷ []
+    map (λ (state : State). made Uart state (searching (planned 3) (search 3 0x7C))) (PowerUp ∷ Selected 2 ∷ Lost ∷ []) ++
+    made Uart Ready (searching (planned 3) (search 8 0x7C)) ∷ []
 
 abbrev pub Strange : Type 0
 Strange = map (row (fits Uart) room) strange ≡ replicate 4 (entries "44 4444 444 44 44444 444 44 4 22 2222 06")

@@ -1,16 +1,14 @@
 -- Document 02, P2, by 000's sections 5.7 and 5.8: the values that registers are given, frames and replies as printed, and the sequence of 5.8.1.
 -- Assumes nothing.
-use Rattle.std.specs.Prelude.{ℕ, ◌≡◌, true, List, [], ◌∷◌, ◌++◌, map, take, replicate}
+use Rattle.std.specs.Prelude.{ℕ, ◌≡◌, true, List, [], ◌∷◌, ◌++◌, map, take, replicate, Err, None}
 use Rattle.model.specs.declared.Interface.TheVariants.{Spi, Uart}
 use Rattle.model.specs.declared.Kind.{Kind}
 use Rattle.model.specs.declared.Kind.TheVariants.{Idle, RdReg, WrReg}
 use Rattle.model.specs.declared.Awaited.{Awaited}
 use Rattle.model.specs.declared.Refusal.TheVariants.{Short, Invalid, Unready, Busy}
-use Rattle.model.specs.declared.Reading.{Reading}
 use Rattle.model.specs.declared.Phase.TheVariants.{Begun, Failed, Counting, Data}
 use Rattle.model.specs.declared.Verdict.TheVariants.{More}
 use Rattle.model.specs.declared.Place.TheVariants.{Nowhere, Piece}
-use Rattle.model.specs.declared.Calibration.TheVariants.{Off, On}
 use Rattle.model.specs.declared.State.TheVariants.{PowerUp, Ready, Selected, Waiting}
 use Rattle.model.specs.declared.Session.{Session}
 use Rattle.model.specs.declared.Answer.{Answer}
@@ -18,7 +16,7 @@ use Rattle.model.specs.declared.Answer.TheVariants.{Refused}
 use Rattle.words.specs.Words.{those}
 use Rattle.model.specs.Frames.{Command, row, permits, allowed, command, protocol_select, rd_reg, wr_reg, read_command}
 use Rattle.model.specs.Replies.{meaning, reply, at, begun, feed as fedWith, data_of}
-use Rattle.model.specs.Calibration.{search}
+use Rattle.model.specs.Calibration.{search, searching}
 use Rattle.model.specs.Session.{made, Call, pulse, request, feed, step}
 use Rattle.model.specs.History.{requested, exchange, exchanges}
 use Rattle.cases.specs.Awaiting.{index, tuning, window, to_select, to_idle, to_read, to_write, good, failed, woke}
@@ -157,7 +155,7 @@ RefusedFrames =
     -- the data of the one behind the code of the other, and behind a code that is neither's
     (0x08 ∷ 0x03 ∷ 0x68 ∷ 0x00 ∷ 0x01 ∷ []) ∷ (0x09 ∷ 0x03 ∷ 0x69 ∷ 0x01 ∷ 0x00 ∷ []) ∷
     (0x0A ∷ 0x03 ∷ 0x69 ∷ 0x01 ∷ 0x00 ∷ []) ∷ (0x0A ∷ 0x04 ∷ 0x68 ∷ 0x01 ∷ 0x01 ∷ 0x13 ∷ []) ∷ [])
-    ≡ replicate 33 (Reading.Refused Invalid)
+    ≡ replicate 33 (Err Invalid)
 
 -- ---- replies as they are printed
 
@@ -289,7 +287,7 @@ pub record InSessions : Type 0 where
 abbrev pub answers_to : Command → List Answer
 answers_to c =
     map (λ (s : Session). (step s (request c [])).answer.answer)
-    (made Uart PowerUp (On (planned 3) (search 3 0x7C)) ∷ made Uart PowerUp Off ∷ made Uart Ready Off ∷ [])
+    (made Uart PowerUp (searching (planned 3) (search 3 0x7C)) ∷ made Uart PowerUp None ∷ made Uart Ready None ∷ [])
 
 -- 4 before 3 before 2, and 1 where the register or the value is permitted
 pub record Order : Type 0 where

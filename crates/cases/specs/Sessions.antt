@@ -1,11 +1,10 @@
 -- Worked sessions of document 01, "The chip as we track it" and "Refusals by number": the state that calls lead to, and the last answer.
 -- Assumes nothing.
-use Rattle.std.specs.Prelude.{ℕ, ◌≡◌, true, false, List, [], ◌∷◌, ◌++◌, map, replicate}
+use Rattle.std.specs.Prelude.{ℕ, ◌≡◌, true, false, List, [], ◌∷◌, ◌++◌, map, replicate, None}
 use Rattle.model.specs.declared.Interface.{Interface}
 use Rattle.model.specs.declared.Interface.TheVariants.{Uart, Spi}
 use Rattle.model.specs.declared.Refusal.TheVariants.{Short, Invalid, Unready, Busy, Malformed, Unawaited, ChipError, LowestTimeout, HighestTag, NoLevel, CalibrationError}
 use Rattle.model.specs.declared.Plan.{Plan}
-use Rattle.model.specs.declared.Calibration.TheVariants.{Off}
 use Rattle.model.specs.declared.State.{State}
 use Rattle.model.specs.declared.State.TheVariants.{PowerUp, Ready, Selected, Waiting, Lost}
 use Rattle.model.specs.declared.Answer.{Answer}
@@ -170,7 +169,7 @@ pub record Pulses : Type 0 where
   pub interface :
       map (λ (calls : List Call). (after Spi calls).session.interface) ((pulse ∷ []) ∷ selected 2 ∷ lost ∷ (selected 2 ++ reset room ∷ []) ∷ (selected 2 ++ power_on Uart ∷ []) ∷ []) ≡
       Spi ∷ Spi ∷ Spi ∷ Spi ∷ Uart ∷ []
-  pub before_the_first : unpowered ≡ made Uart Lost Off
+  pub before_the_first : unpowered ≡ made Uart Lost None
 
 -- ---- histories
 

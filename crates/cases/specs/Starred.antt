@@ -1,20 +1,17 @@
 -- Document 01, "Cases": those with * in one statement, a table over the definitions.
 -- Assumes nothing.
-use Rattle.std.specs.Prelude.{ℕ, ◌≡◌, Bool, true, false, List, [], ◌∷◌, map, reverse, leb, replicate, pos, Float}
+use Rattle.std.specs.Prelude.{ℕ, ◌≡◌, Bool, true, false, List, [], ◌∷◌, map, reverse, leb, replicate, pos, Float, Ok, Some, None}
 use Rattle.std.specs.Float.{binary32}
 use Rattle.std.specs.Float.Ieee.{of_bits, of_int}
 use Rattle.model.specs.declared.Interface.TheVariants.{Uart}
 use Rattle.model.specs.declared.Settings.{Settings}
 use Rattle.model.specs.declared.Plan.{Plan}
-use Rattle.model.specs.declared.Timing.{Timing}
 use Rattle.model.specs.declared.Wait.TheVariants.{After}
-use Rattle.model.specs.declared.Waited.{Waited}
-use Rattle.model.specs.declared.Guard.TheVariants.{Band, NoBand}
 use Rattle.model.specs.declared.Answer.TheVariants.{Reference}
 use Rattle.model.specs.Frames.{idle, frame, flags}
 use Rattle.model.specs.Replies.{meaning, reply}
 use Rattle.model.specs.Times.{ticks, times, times_of, wait_of}
-use Rattle.model.specs.Calibration.{settings_at, band}
+use Rattle.model.specs.Calibration.{settings_at, band, band_of}
 use Rattle.model.specs.Session.{unpowered}
 use Rattle.model.specs.History.{Event, Exchange, exchanges, trials, level_of}
 use Rattle.model.specs.Talk.{last}
@@ -89,11 +86,11 @@ pub record Starred : Type 0 where
       times (calibrating level) ≡ record { low = tick; reference = ms 8; inactive = ms 264; timeout = ms 528; osc = ms 3; dac = ms 3 }
   pub calibration_told :
       map (λ (level : ℕ). times_of (calibrating level)) (0x00 ∷ 0x5C ∷ 0xFC ∷ []) ≡
-      replicate 3 (Timing.Known (ticks (calibrating 0x00)) (times (calibrating 0x00)))
-  pub calibration_waits : map (λ (level : ℕ). wait_of (calibrating level)) (0x00 ∷ 0x5C ∷ 0xFC ∷ []) ≡ replicate 3 (Waited.Known (After (ms 528)))
+      replicate 3 (Ok (ticks (calibrating 0x00), times (calibrating 0x00)))
+  pub calibration_waits : map (λ (level : ℕ). wait_of (calibrating level)) (0x00 ∷ 0x5C ∷ 0xFC ∷ []) ≡ replicate 3 (Ok (After (ms 528)))
   pub longest_ticks : (ticks longest).timeout ≡ 134217728
   pub longest_time : (times longest).timeout ≡ ms 4194304
-  pub longest_wait : wait_of longest ≡ Waited.Known (After (ms 4194304))
+  pub longest_wait : wait_of longest ≡ Ok (After (ms 4194304))
   pub switch_at_5c : levels (switching_at 0x5C) ≡ 0x00 ∷ 0xFC ∷ 0x7C ∷ 0x3C ∷ 0x5C ∷ 0x6C ∷ 0x64 ∷ 0x60 ∷ []
   pub tag_only_at_00 : levels (switching_at 0x00) ≡ 0x00 ∷ 0xFC ∷ 0x7C ∷ 0x3C ∷ 0x1C ∷ 0x0C ∷ 0x04 ∷ 0x00 ∷ []
   pub timeout_only_at_fc : levels (switching_at 0xF8) ≡ 0x00 ∷ 0xFC ∷ 0x7C ∷ 0xBC ∷ 0xDC ∷ 0xEC ∷ 0xF4 ∷ 0xF8 ∷ []
@@ -101,7 +98,7 @@ pub record Starred : Type 0 where
       map (λ (top : ℕ). last (switching_at top)) (0x5C ∷ 0x00 ∷ 0xF8 ∷ []) ≡ Reference 0x5C 8 ∷ Reference 0x00 8 ∷ Reference 0xF8 8 ∷ []
   pub bands :
       map band (0x5C ∷ 0x00 ∷ 0xF8 ∷ 0xF4 ∷ 0x08 ∷ []) ≡
-      Band 0x54 0x64 ∷ NoBand ∷ NoBand ∷ Band 0xEC 0xFC ∷ Band 0x00 0x10 ∷ []
+      Some (band_of 0x54 0x64) ∷ None ∷ None ∷ Some (band_of 0xEC 0xFC) ∷ Some (band_of 0x00 0x10) ∷ []
   pub poll_flags : map flags (0x08 ∷ 0xF3 ∷ []) ≡ record { read = true; send = false } ∷ record { read = false; send = false } ∷ []
   pub awaited_idle :
       map (reply (to_idle 0x03)) ((0x00 ∷ 0x01 ∷ 0x02 ∷ []) ∷ (0x00 ∷ 0x01 ∷ 0x08 ∷ []) ∷ []) ≡

@@ -1,14 +1,12 @@
 -- Document 01, "Waiting times": the times of settings whose factors all differ, in ticks and in milliseconds, for each prescaler.
 -- Assumes nothing.
-use Rattle.std.specs.Prelude.{ℕ, ◌*◌, ◌≡◌, [], ◌∷◌, map, replicate, Float}
+use Rattle.std.specs.Prelude.{ℕ, ◌*◌, ◌≡◌, [], ◌∷◌, map, replicate, Float, Err, Ok}
 use Rattle.std.specs.Float.{binary32}
 use Rattle.std.specs.Float.Ieee.{of_bits}
 use Rattle.model.specs.declared.Refusal.TheVariants.{Invalid}
 use Rattle.model.specs.declared.Settings.{Settings}
 use Rattle.model.specs.declared.Ticks.{Ticks}
-use Rattle.model.specs.declared.Timing.{Timing}
 use Rattle.model.specs.declared.Wait.TheVariants.{Endless, After}
-use Rattle.model.specs.declared.Waited.{Waited}
 use Rattle.model.specs.Times.{ticks, times, times_of, wait_of}
 use Rattle.model.specs.Calibration.{settings_at}
 use Rattle.cases.specs.Starred.{ms, tick}
@@ -53,13 +51,13 @@ pub record Timed : Type 0 where
   pub p3 : times (timed 0xC1) ≡ record { low = quarter; reference = ms 64; inactive = ms 1536; timeout = ms 7680; osc = ms 8; dac = ms 24 }
   pub told :
       times_of (timed 0xC3) ≡
-      Timing.Known (ticks_of 8) (record { low = quarter; reference = ms 64; inactive = ms 1536; timeout = ms 7680; osc = ms 8; dac = ms 24 })
-  pub not_told : map times_of (timed 0xC0 ∷ timed 0x05 ∷ timed 0x21 ∷ []) ≡ replicate 3 (Timing.Refused Invalid)
+      Ok (ticks_of 8, record { low = quarter; reference = ms 64; inactive = ms 1536; timeout = ms 7680; osc = ms 8; dac = ms 24 })
+  pub not_told : map times_of (timed 0xC0 ∷ timed 0x05 ∷ timed 0x21 ∷ []) ≡ replicate 3 (Err Invalid)
   -- with bit 0 among the sources, and without it
   pub waits :
       map (λ (source : ℕ). wait_of (timed source)) (0x01 ∷ 0x43 ∷ 0x99 ∷ 0xDB ∷ []) ≡
-      Waited.Known (After (ms 960)) ∷ Waited.Known (After (ms 1920)) ∷ Waited.Known (After (ms 3840)) ∷ Waited.Known (After (ms 7680)) ∷ []
-  pub endless : map (λ (source : ℕ). wait_of (timed source)) (0x02 ∷ 0x48 ∷ 0x90 ∷ 0xDA ∷ []) ≡ replicate 4 (Waited.Known Endless)
-  pub no_wait : map (λ (source : ℕ). wait_of (timed source)) (0xC0 ∷ 0x05 ∷ 0x21 ∷ []) ≡ replicate 3 (Waited.Refused Invalid)
+      Ok (After (ms 960)) ∷ Ok (After (ms 1920)) ∷ Ok (After (ms 3840)) ∷ Ok (After (ms 7680)) ∷ []
+  pub endless : map (λ (source : ℕ). wait_of (timed source)) (0x02 ∷ 0x48 ∷ 0x90 ∷ 0xDA ∷ []) ≡ replicate 4 (Ok Endless)
+  pub no_wait : map (λ (source : ℕ). wait_of (timed source)) (0xC0 ∷ 0x05 ∷ 0x21 ∷ []) ≡ replicate 3 (Err Invalid)
   -- of a calibration's command MaxSleep is 01
   pub calibration : times (settings_at (planned 3) 0x5C) ≡ record { low = quarter; reference = ms 64; inactive = ms 1536; timeout = ms 3072; osc = ms 8; dac = ms 24 }

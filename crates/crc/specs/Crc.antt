@@ -1,6 +1,6 @@
 -- The CRC of ISO/IEC 13239, by which ISO/IEC 15693 tags close what they send: a register of sixteen bits that takes a bit at a time.
 -- Assumes nothing.
-use Rattle.std.specs.Prelude.{ℕ, zero, suc, ◌+◌, ◌-◌, ◌/◌, ◌%◌, ◌≡◌, not, List, [], ◌∷◌, eqb, get_or}
+use Rattle.std.specs.Prelude.{ℕ, zero, suc, ◌+◌, ◌-◌, ◌/◌, ◌%◌, ◌≡◌, not, List, [], ◌∷◌, fold, eqb, get_or}
 use Rattle.std.specs.Int.Bits.{bit_xor}
 use Rattle.words.specs.Words.{pick, those}
 
@@ -61,8 +61,7 @@ abbrev pub looked : List ℕ → ℕ → ℕ → ℕ
 looked table b register = bit_xor (register / 256) (get_or table (bit_xor register b % 256) 0)
 
 abbrev pub looked_all : List ℕ → List ℕ → ℕ → ℕ
-looked_all table [] register = register
-looked_all table (b ∷ bs) register = looked_all table bs (looked table b register)
+looked_all table bs register = fold (λ (r b : ℕ). looked table b r) register bs
 
 abbrev pub crc_by : List ℕ → List ℕ → ℕ
 crc_by table bs = 0xFFFF - looked_all table bs preset

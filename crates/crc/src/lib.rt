@@ -17,13 +17,9 @@ fn look(remainders: &[u16; 256], byte: u8, register: u16) -> u16
 fn by_table(remainders: &[u16; 256], bytes: &[u8]) -> u16
     ensures { result ≡ crc_by remainders.now bytes.now }
 {
-    let mut register: u16 = 0xFFFF;
-    let mut i: usize = 0;
-    while i < bytes.len() {
-        register = look(remainders, bytes[i], register);
-        i += 1;
-    }
-    !register
+    !bytes
+        .iter()
+        .fold(0xFFFF, |register, byte| look(remainders, *byte, register))
 }
 
 pub fn of(bytes: &[u8]) -> u16

@@ -26,7 +26,7 @@ const REMAINDERS: [u16; 256] = [
     0x3DE3, 0x2C6A, 0x1EF1, 0x0F78,
 ];
 
-// No entry is mistaken.
+// No entry is mistaken. The table is a const, by value: the form that document 01 names.
 pub(crate) fn remainders() -> [u16; 256]
     ensures { Right result }
 {

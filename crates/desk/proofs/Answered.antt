@@ -1,5 +1,6 @@
 -- A line that is no call changes nothing; and a line with a word is answered.
 -- Assumes nothing.
+use Rattle.std.specs.Prelude.{Err, None, Ok, Option, Result, Some}
 use Prim.Native.Nat.{ℕ, ◌+◌, ◌≤◌, ◌<◌}
 use native.Mathlib.Omega.{arith}
 use mathlib.Core.Path.{◌≡◌, refl}
@@ -10,21 +11,14 @@ use lib.Ieee.Fits.{and_l, and_r}
 use lib.ListN.{length}
 use lib.Seq.{paste}
 use borrow.Author.Tests.{le-leb, lt-leb, le-ltb, lt-ltb, ne_eqb}
+use Rattle.std.specs.Prelude.{Result, Ok, Err}
 use Rattle.model.specs.declared.Answer.{Answer}
 use Rattle.model.specs.declared.Answer.TheVariants.{Done, Sent, More, Good, Woken, Reference, Refused}
-use Rattle.model.specs.declared.Guard.{Guard}
-use Rattle.model.specs.declared.Guard.TheVariants.{Band, NoBand}
+use Rattle.model.specs.declared.Band.{Band}
 use Rattle.model.specs.declared.Kind.{Kind}
 use Rattle.model.specs.declared.Kind.TheVariants.{Idn, ProtocolSelect, SendRecv, Idle, RdReg, WrReg, Echo}
-use Rattle.model.specs.declared.Reading.{Reading}
-use Rattle.model.specs.declared.Reading.TheVariants.{Taken}
-use Rattle.model.specs.declared.Reading.TheVariants.{Refused as NoFrame}
-use Rattle.model.specs.declared.Written.{Written}
 use Rattle.model.specs.declared.Message.{Message}
 use Rattle.model.specs.declared.Message.TheVariants.{GetFirmwareVersion, Inventory, GoToTagDetectingState, IsWakeUp, CalibrateTagDetecting}
-use Rattle.model.specs.declared.Named.{Named}
-use Rattle.model.specs.declared.CommandRead.{CommandRead}
-use Rattle.model.specs.declared.AnswerRead.{AnswerRead}
 use Rattle.words.specs.Words.{bit, within}
 use Rattle.words.specs.Contract.{Ran}
 use Rattle.model.specs.Frames.{settings, settings_allowed, read_command}
@@ -33,7 +27,6 @@ use Rattle.model.specs.Messages.{row, named, read_message, read_answer}
 use Rattle.words.proofs.Words.{ways}
 use Rattle.lines.specs.Lines.{fore, rest, byte_at, skipped}
 use Rattle.text.specs.Writing.{written, word, hexes}
-use Rattle.stakes.specs.declared.StakeRead.{StakeRead}
 use Rattle.stakes.specs.Stakes.{read}
 use Rattle.calls.specs.declared.Question.{Question}
 use Rattle.calls.specs.declared.Question.TheVariants.{Times, Wait, Command, Received}
@@ -45,11 +38,11 @@ use Rattle.calls.specs.declared.Verb.TheVariants.{Acts, Feeds, Tells, Speaks, Se
 use Rattle.calls.specs.declared.Fault.{Fault}
 use Rattle.calls.specs.declared.Fault.TheVariants.{TooLong, Unknown}
 use Rattle.calls.specs.declared.Asked.{Asked}
-use Rattle.calls.specs.declared.Asked.TheVariants.{Understood, Wrong}
+use Rattle.calls.specs.declared.Wrong.{Wrong}
 use Rattle.calls.specs.declared.Board.{Board}
 use Rattle.calls.specs.declared.Board.TheVariants.{Asks, Reads, Answers, Fails, Replies}
 use Rattle.calls.specs.Calls.{kind_name, given_for, message_name}
-use Rattle.reading.specs.Asking.{asked}
+use Rattle.reading.specs.Asking.{wrong, asked}
 use Rattle.faults.specs.Faults.{fault_text}
 use Rattle.help.specs.Page.{page}
 use Rattle.answers.specs.Answers.{answer_text, used_text}
@@ -59,14 +52,21 @@ use Rattle.board.specs.Board.{written_text, command_text, tells, contents_text, 
 use Rattle.desk.specs.declared.Post.{Post}
 use Rattle.desk.specs.Desk.{Left, Heard, acting, feeding, speaking, obeyed, carried_out, longest}
 use Rattle.desk.specs.Claims.{Unmoved, Shortened, Answered}
+use Rattle.model.specs.declared.AnswerError.TheVariants.{BoardError, ChipError}
+use Rattle.model.specs.declared.AnswerError.{AnswerError}
+use Rattle.model.specs.declared.Frame.{Frame}
+use Rattle.model.specs.declared.Refusal.{Refusal}
+use Rattle.stakes.specs.declared.Stake.{Stake}
+use Rattle.stakes.specs.declared.Unread.{Unread}
+use Rattle.words.specs.declared.Part.{Part}
 
 pub unmoved : Unmoved
-unmoved line number post bytes out room text place fault short some call wrong =
+unmoved line number post bytes out room text place fault short some call is =
     let start = skipped line 0 in
-    simp (le-ltb longest (length line) short, lt-leb (length line) start some, ne_eqb (byte_at line start) 35 call, wrong)
+    simp (le-ltb longest (length line) short, lt-leb (length line) start some, ne_eqb (byte_at line start) 35 call, is)
 
 -- its hypothesis is met: "tag" is the name of no call
-met : (asked (word "tag") []).answer ≡ Wrong 0 Unknown
+met : (asked (word "tag") []).answer ≡ wrong 0 Unknown
 met = refl
 
 pub shortened : Shortened
@@ -87,9 +87,9 @@ answer_short (Woken wake) out more = tt
 answer_short (Reference reference commands) out more = tt
 answer_short (Refused refusal) out more = tt
 
-guard_short : (guard : Guard) → T (short (guard_text guard))
-guard_short (Band low high) = tt
-guard_short NoBand = tt
+guard_short : (guard : Option Band) → T (short (guard_text guard))
+guard_short (Some b) = tt
+guard_short None = tt
 
 kind_short : (kind : Kind) (more : List (List ℕ)) → T (short (kind_name kind ∷ more))
 kind_short Idn more = tt
@@ -100,13 +100,13 @@ kind_short RdReg more = tt
 kind_short WrReg more = tt
 kind_short Echo more = tt
 
-reading_short : (part : List ℕ) (reading : Reading) → T (short (reading_text part reading))
-reading_short part (Taken frame) = kind_short frame.kind (hexes (given_for frame.kind (rest part 2)))
-reading_short part (NoFrame refusal) = tt
+reading_short : (part : List ℕ) (reading : Result Frame Refusal) → T (short (reading_text part reading))
+reading_short part (Ok frame) = kind_short frame.kind (hexes (given_for frame.kind (rest part 2)))
+reading_short part (Err refusal) = tt
 
-stake_short : (read : StakeRead) → T (short (stake_read_text read))
-stake_short (StakeRead.Taken s) = tt
-stake_short (StakeRead.Refused k) = tt
+stake_short : (read : Result Stake Unread) → T (short (stake_read_text read))
+stake_short (Ok s) = tt
+stake_short (Err k) = tt
 
 question_short : (question : Question) (given : List ℕ) → T (short (question_text question given))
 question_short Times given = ways (λ (parts : List (List ℕ)). T (short parts)) (settings_allowed (settings given)) (λ t. tt) (λ t. tt)
@@ -119,9 +119,9 @@ question_short FlagsOf given = tt
 question_short Received given = tt
 question_short StakeOf given = stake_short (read given)
 
-written_short : (told : Written) (out : List ℕ) → T (short (written_text told out))
-written_short (Written.Sent n) out = tt
-written_short (Written.Refused refusal) out = tt
+written_short : (told : Result ℕ Refusal) (out : List ℕ) → T (short (written_text told out))
+written_short (Ok n) out = tt
+written_short (Err refusal) out = tt
 
 -- the name of each message's call, and the word of its answer
 message_short : (m : Message) (more : List (List ℕ)) → T (short (message_name m ∷ more)) × T (short (tells m ∷ more))
@@ -132,21 +132,21 @@ message_short GoToTagDetectingState more = (tt, tt)
 message_short IsWakeUp more = (tt, tt)
 message_short CalibrateTagDetecting more = (tt, tt)
 
-command_short : (given : List ℕ) (read : CommandRead) → T (short (command_text given read))
-command_short given (CommandRead.Taken m p) = (message_short m (hexes (within given p))).0
-command_short given CommandRead.Malformed = tt
+command_short : (given : List ℕ) (read : Option (Message × Part)) → T (short (command_text given read))
+command_short given (Some (m, p)) = (message_short m (hexes (within given p))).0
+command_short given None = tt
 
-read_short : (m : Message) (xs : List ℕ) (read : AnswerRead) → T (short (read_text m xs read))
-read_short m xs (AnswerRead.Carries p) = (message_short m (contents_text (row m).contents (within xs p))).1
-read_short m xs (AnswerRead.BoardError code) = tt
-read_short m xs (AnswerRead.ChipError code) = tt
-read_short m xs AnswerRead.Malformed = tt
+read_short : (m : Message) (xs : List ℕ) (read : Result Part AnswerError) → T (short (read_text m xs read))
+read_short m xs (Ok p) = (message_short m (contents_text (row m).contents (within xs p))).1
+read_short m xs (Err (BoardError code)) = tt
+read_short m xs (Err (ChipError code)) = tt
+read_short m xs (Err AnswerError.Malformed) = tt
 
-reply_short : (found : Named) (xs : List ℕ) → T (short (reply_text found xs))
-reply_short (Named.Known m) xs = read_short m xs (read_answer m xs)
-reply_short Named.Unknown xs = tt
+reply_short : (found : Option Message) (xs : List ℕ) → T (short (reply_text found xs))
+reply_short (Some m) xs = read_short m xs (read_answer m xs)
+reply_short None xs = tt
 
-spoken_short : (what : Board) (given : List ℕ) (ran : Ran Written) → T (short (spoken_text what given ran))
+spoken_short : (what : Board) (given : List ℕ) (ran : Ran (Result ℕ Refusal)) → T (short (spoken_text what given ran))
 spoken_short (Asks m) given ran = written_short ran.answer ran.bytes
 spoken_short Reads given ran = command_short given (read_message given)
 spoken_short Answers given ran = written_short ran.answer ran.bytes
@@ -196,9 +196,9 @@ module _ (post : Post) (out room text : List ℕ) (fits : length page ≤ length
   by_fault : (number place : ℕ) (fault : Fault) → 0 < (written text 0 (fault_text number place fault)).answer
   by_fault number place fault = begun_short text (fault_text number place fault) tt long
 
-  by_heard : (number : ℕ) (read : Asked) (bytes : List ℕ) → Spoken (carried_out number read bytes post out room text)
-  by_heard number (Understood call given count) bytes = by_obeyed call given (fore bytes count)
-  by_heard number (Wrong place fault) bytes = by_fault number place fault
+  by_heard : (number : ℕ) (read : Result Asked Wrong) (bytes : List ℕ) → Spoken (carried_out number read bytes post out room text)
+  by_heard number (Ok it) bytes = by_obeyed it.call it.number (fore bytes it.count)
+  by_heard number (Err it) bytes = by_fault number it.place it.fault
 
 pub answered : Answered
 answered line number post bytes out room text word whole fits =

@@ -6,6 +6,7 @@ use mathlib.Core.Logic.{◌⊎◌, inl, inr}
 use mathlib.Core.List.{List}
 use lib.Dec.{leb, ltb, eqb}
 use lib.ListN.{length}
+use Rattle.std.specs.Prelude.{Result, Ok, Err}
 use Rattle.model.specs.declared.Session.{Session}
 use Rattle.model.specs.Frames.{command, send_recv}
 use Rattle.model.specs.Session.{power_on, pulse, request, reset, poll, read, calibrate, next, feed}
@@ -18,7 +19,7 @@ use Rattle.calls.specs.declared.Buffer.TheVariants.{Out, Room}
 use Rattle.calls.specs.declared.Verb.{Verb}
 use Rattle.calls.specs.declared.Verb.TheVariants.{Acts, Feeds, Tells, Speaks, Sets, Helps}
 use Rattle.calls.specs.declared.Asked.{Asked}
-use Rattle.calls.specs.declared.Asked.TheVariants.{Understood, Wrong}
+use Rattle.calls.specs.declared.Wrong.{Wrong}
 use Rattle.reading.specs.Asking.{asked}
 use Rattle.acts.specs.Acts.{interface_of, plan_of, request_for, acted}
 use Rattle.desk.specs.declared.Post.{Post}
@@ -49,9 +50,9 @@ module _ (post : Post) (out room text : List ℕ) where
   by_obeyed (Sets Room) number given = inl refl
   by_obeyed Helps number given = inl refl
 
-  by_heard : (number : ℕ) (read : Asked) (bytes : List ℕ) → Once (carried_out number read bytes post out room text)
-  by_heard number (Understood call given count) bytes = by_obeyed call given (fore bytes count)
-  by_heard number (Wrong place fault) bytes = inl refl
+  by_heard : (number : ℕ) (read : Result Asked Wrong) (bytes : List ℕ) → Once (carried_out number read bytes post out room text)
+  by_heard number (Ok it) bytes = by_obeyed it.call it.number (fore bytes it.count)
+  by_heard number (Err it) bytes = inl refl
 
 pub one_call : OneCall
 one_call line number post bytes out room text =

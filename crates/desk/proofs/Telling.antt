@@ -1,7 +1,7 @@
 -- What was put at the front of a text is what the line tells; and an outcome is told by what the model says of it.
 -- Assumes nothing.
 use Prim.Native.Nat.{ℕ}
-use mathlib.Core.Path.{◌≡◌, subst, ap₂}
+use mathlib.Core.Path.{◌≡◌, subst, subst⁻¹, ap₂}
 use mathlib.Core.List.{List}
 use Rattle.model.specs.declared.Outcome.{Outcome}
 use Rattle.words.specs.Contract.{Ran, Is}
@@ -9,6 +9,10 @@ use Rattle.text.specs.Writing.{Puts}
 use Rattle.desk.specs.declared.Post.{Post}
 use Rattle.desk.specs.declared.Done.{Done}
 use Rattle.desk.specs.Desk.{saying}
+
+-- what a lent buffer holds at exit is what was put there
+pub lent : {text between exit : List ℕ} {at r : ℕ} {parts : List (List ℕ)} → exit ≡ between → Puts text at parts r between → Puts text at parts r exit
+lent {text} {at = at} {r} {parts} e puts = subst⁻¹ (λ (t : List ℕ). Puts text at parts r t) e puts
 
 pub telling : {kept post : Post} {parts : List (List ℕ)} {text exit : List ℕ} {n : ℕ} → kept ≡ post → Puts text 0 parts n exit
     → Is (saying post parts text) (record { post = kept; n = n }) exit

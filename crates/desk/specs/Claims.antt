@@ -6,8 +6,7 @@ use Rattle.model.specs.Session.{Call, step}
 use Rattle.lines.specs.Lines.{byte_at, skipped}
 use Rattle.calls.specs.declared.Fault.{Fault}
 use Rattle.calls.specs.declared.Fault.TheVariants.{TooLong}
-use Rattle.calls.specs.declared.Asked.TheVariants.{Wrong}
-use Rattle.reading.specs.Asking.{asked}
+use Rattle.reading.specs.Asking.{wrong, asked}
 use Rattle.faults.specs.Faults.{fault_text}
 use Rattle.help.specs.Page.{page}
 use Rattle.desk.specs.declared.Post.{Post}
@@ -29,7 +28,7 @@ OneCall =
 abbrev pub Unmoved : Type 0
 Unmoved =
     (line : List ℕ) (number : ℕ) (post : Post) (bytes out room text : List ℕ) (place : ℕ) (fault : Fault) → length line ≤ longest
-    → skipped line 0 < length line → (byte_at line (skipped line 0) ≡ 35 → ⊥) → (asked line bytes).answer ≡ Wrong place fault
+    → skipped line 0 < length line → (byte_at line (skipped line 0) ≡ 35 → ⊥) → (asked line bytes).answer ≡ wrong place fault
     → (answered line number post bytes out room text).left ≡ record { done = saying post (fault_text number place fault) text; out = out; room = room }
 
 -- and so is a line that is too long

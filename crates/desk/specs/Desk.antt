@@ -1,9 +1,8 @@
 -- A line of a script, answered: what is kept from line to line goes in and comes back.
 -- Assumes nothing.
-use Rattle.std.specs.Prelude.{ℕ, ◌≡◌, List, [], ◌∷◌, ◌++◌, leb, ltb, eqb, length}
+use Rattle.std.specs.Prelude.{ℕ, ◌≡◌, List, [], ◌∷◌, ◌++◌, leb, ltb, eqb, length, Result, Ok, Err}
 use Rattle.model.specs.declared.Session.{Session}
 use Rattle.model.specs.declared.Outcome.{Outcome}
-use Rattle.model.specs.declared.Written.{Written}
 use Rattle.words.specs.Words.{pick}
 use Rattle.words.specs.Contract.{Ran, Is, on_front}
 use Rattle.model.specs.Session.{feed, step}
@@ -18,7 +17,7 @@ use Rattle.calls.specs.declared.Verb.TheVariants.{Acts, Feeds, Tells, Speaks, Se
 use Rattle.calls.specs.declared.Fault.{Fault}
 use Rattle.calls.specs.declared.Fault.TheVariants.{TooLong}
 use Rattle.calls.specs.declared.Asked.{Asked}
-use Rattle.calls.specs.declared.Asked.TheVariants.{Understood, Wrong}
+use Rattle.calls.specs.declared.Wrong.{Wrong}
 use Rattle.reading.specs.Asking.{asked}
 use Rattle.faults.specs.Faults.{fault_text}
 use Rattle.help.specs.Page.{page}
@@ -29,6 +28,7 @@ use Rattle.board.specs.Board.{wrote, spoken_text}
 use Rattle.acts.specs.Acts.{acted}
 use Rattle.desk.specs.declared.Post.{Post}
 use Rattle.desk.specs.declared.Done.{Done}
+use Rattle.model.specs.declared.Refusal.{Refusal}
 
 -- ---- the post
 
@@ -82,7 +82,7 @@ abbrev pub set_told : Post → Buffer → ℕ → List ℕ → Ran Done
 set_told post buffer n text = saying (lending post buffer n) (word "ok" ∷ state_text post.session) text
 
 -- a call on the board's messages, on as much of the output as is lent
-abbrev pub speaking : Post → Board → List ℕ → List ℕ → Ran Written
+abbrev pub speaking : Post → Board → List ℕ → List ℕ → Ran (Result ℕ Refusal)
 speaking post what given out = on_front post.out out (λ front. wrote what given front)
 
 abbrev pub obeyed : Verb → Post → ℕ → List ℕ → List ℕ → List ℕ → List ℕ → Left
@@ -113,9 +113,9 @@ abbrev pub faulted : ℕ → ℕ → Fault → Post → List ℕ → List ℕ �
 faulted line place fault post out room text = record { done = saying post (fault_text line place fault) text; out = out; room = room }
 
 -- a line that was read as a call, with the buffer that has its bytes
-abbrev pub carried_out : ℕ → Asked → List ℕ → Post → List ℕ → List ℕ → List ℕ → Left
-carried_out line (Understood call number count) bytes post out room text = obeyed call post number (fore bytes count) out room text
-carried_out line (Wrong place fault) bytes post out room text = faulted line place fault post out room text
+abbrev pub carried_out : ℕ → Result Asked Wrong → List ℕ → Post → List ℕ → List ℕ → List ℕ → Left
+carried_out line (Ok asked) bytes post out room text = obeyed asked.call post asked.number (fore bytes asked.count) out room text
+carried_out line (Err wrong) bytes post out room text = faulted line wrong.place wrong.fault post out room text
 
 abbrev pub hearing : List ℕ → ℕ → Post → List ℕ → List ℕ → List ℕ → List ℕ → Heard
 hearing line number post bytes out room text =

@@ -4,10 +4,11 @@
 
 ghost use Rattle.std.specs.Prelude.{◌≡◌};
 ghost use Rattle.words.specs.Contract.{Is};
-ghost use Rattle.desk.specs.Desk.{with_session, lending, acting, act_told, feeding, feed_told, set_told, obeyed, hearing, answered, Leaves, Hears};
+ghost use Rattle.desk.specs.Desk.{lending, acting, act_told, feeding, feed_told, set_told, obeyed, hearing, answered, Leaves, Hears};
 
-use calls::{Act, Asked, Buffer, Fault, Verb};
+use calls::{Act, Buffer, Fault, Verb, Wrong};
 use model::Session;
+use text::Text;
 
 // The session, and how much of the output and of the reply room is lent.
 #[derive(Clone, Copy)]
@@ -24,78 +25,62 @@ pub struct Done {
     pub n: usize,
 }
 
-fn with_session(post: Post, session: Session) -> Post
-    ensures { result ≡ with_session post session }
-{
-    Post {
-        session,
-        out: post.out,
-        room: post.room,
-    }
-}
-
 fn lend(post: Post, buffer: Buffer, n: usize) -> Post
     ensures { result ≡ lending post buffer n }
 {
-    let session = post.session;
     match buffer {
-        Buffer::Out => Post {
-            session,
-            out: n,
-            room: post.room,
-        },
-        Buffer::Room => Post {
-            session,
-            out: post.out,
-            room: n,
-        },
+        Buffer::Out => Post { out: n, ..post },
+        Buffer::Room => Post { room: n, ..post },
     }
 }
 
 fn act(what: Act, post: Post, number: usize, given: &[u8], out: &mut [u8], text: &mut [u8]) -> Done
     ensures { Is (act_told post (acting post what number given.now out.old) text.old) result text.new × (out.new ≡ (acting post what number given.now out.old).bytes) }
 {
-    let s = post.session;
-    let lent = post.out;
-    let outcome = acts::act_on(what, s, number, given, out, lent);
-    let s = outcome.session;
-    let answer = outcome.answer;
-    let n = answers::put_answer(text, answer, out);
+    let outcome = acts::act_on(what, post.session, number, given, out, post.out);
+    let mut text = Text { bytes: text, at: 0 };
+    answers::put_answer(&mut text, outcome.answer, out);
+    standing::put_state(&mut text, outcome.session);
     Done {
-        post: with_session(post, s),
-        n: standing::put_state(text, n, s),
+        post: Post {
+            session: outcome.session,
+            ..post
+        },
+        n: text.at,
     }
 }
 
 fn feed(post: Post, piece: &[u8], room: &mut [u8], text: &mut [u8]) -> Done
     ensures { Is (feed_told post piece.now (feeding post piece.now room.old) text.old) result text.new × (room.new ≡ (feeding post piece.now room.old).bytes) }
 {
-    let s = post.session;
-    let lent = post.room;
-    let outcome = acts::feed_on(s, piece, room, lent);
-    let s = outcome.session;
-    let answer = outcome.answer;
-    let place = outcome.place;
-    let n = answers::put_answer(text, answer, b"");
-    let n = answers::put_used(text, n, outcome.used, place, piece, room);
+    let outcome = acts::feed_on(post.session, piece, room, post.room);
+    let mut text = Text { bytes: text, at: 0 };
+    answers::put_answer(&mut text, outcome.answer, b"");
+    answers::put_used(&mut text, outcome.used, outcome.place, piece, room);
+    standing::put_state(&mut text, outcome.session);
     Done {
-        post: with_session(post, s),
-        n: standing::put_state(text, n, s),
+        post: Post {
+            session: outcome.session,
+            ..post
+        },
+        n: text.at,
     }
 }
 
 fn set(post: Post, buffer: Buffer, length: usize, text: &mut [u8]) -> Done
     ensures { Is (set_told post buffer length text.old) result text.new }
 {
-    let s = post.session;
-    let n = text::put(text, 0, b"ok");
+    let mut text = Text { bytes: text, at: 0 };
+    text.put(b"ok");
+    standing::put_state(&mut text, post.session);
     Done {
         post: lend(post, buffer, length),
-        n: standing::put_state(text, n, s),
+        n: text.at,
     }
 }
 
-// Does what a call says.
+// Does what a call says. Each buffer that is lent is a parameter of its own, here, above and below: the contract says of each what it holds at the
+// end.
 fn obey(
     call: Verb,
     post: Post,
@@ -110,19 +95,22 @@ fn obey(
     match call {
         Verb::Acts(what) => act(what, post, number, given, out, text),
         Verb::Feeds => feed(post, given, room, text),
-        Verb::Tells(question) => Done {
-            post,
-            n: questions::answer(question, given, text),
-        },
-        Verb::Speaks(what) => Done {
-            post,
-            n: board::answer(what, given, out, post.out, text),
-        },
+        Verb::Tells(question) => {
+            let mut text = Text { bytes: text, at: 0 };
+            questions::answer(question, given, &mut text);
+            Done { post, n: text.at }
+        }
+        Verb::Speaks(what) => {
+            let mut text = Text { bytes: text, at: 0 };
+            board::answer(what, given, out, post.out, &mut text);
+            Done { post, n: text.at }
+        }
         Verb::Sets(buffer) => set(post, buffer, number, text),
-        Verb::Helps => Done {
-            post,
-            n: help::put(text, 0),
-        },
+        Verb::Helps => {
+            let mut text = Text { bytes: text, at: 0 };
+            help::put(&mut text);
+            Done { post, n: text.at }
+        }
     }
 }
 
@@ -139,23 +127,20 @@ fn hear(
     ensures { Hears (hearing line.now number post bytes.old out.old room.old text.old) result bytes.new out.new room.new text.new }
 {
     match reading::read(line, bytes) {
-        Asked::Understood {
-            call,
-            number: given,
-            count,
-        } => obey(
-            call,
+        Ok(asked) => obey(
+            asked.call,
             post,
-            given,
-            lines::front(bytes, count),
+            asked.number,
+            lines::front(bytes, asked.count),
             out,
             room,
             text,
         ),
-        Asked::Wrong { place, fault } => Done {
-            post,
-            n: faults::put(text, number, place, fault),
-        },
+        Err(wrong) => {
+            let mut text = Text { bytes: text, at: 0 };
+            faults::put(&mut text, number, wrong);
+            Done { post, n: text.at }
+        }
     }
 }
 
@@ -176,20 +161,22 @@ pub fn answer(
     ensures { Hears (answered line.now number post bytes.old out.old room.old text.old) result bytes.new out.new room.new text.new }
 {
     if LONGEST < line.len() {
-        return Done {
-            post,
-            n: faults::put(text, number, LONGEST, Fault::TooLong),
+        let wrong = Wrong {
+            place: LONGEST,
+            fault: Fault::TooLong,
         };
+        let mut text = Text { bytes: text, at: 0 };
+        faults::put(&mut text, number, wrong);
+        return Done { post, n: text.at };
     }
     let start = lines::skip(line, 0);
     if line.len() <= start {
         return Done { post, n: 0 };
     }
     if lines::at(line, start) == b'#' {
-        return Done {
-            post,
-            n: text::put(text, 0, line),
-        };
+        let mut text = Text { bytes: text, at: 0 };
+        text.put(line);
+        return Done { post, n: text.at };
     }
     hear(line, number, post, bytes, out, room, text)
 }

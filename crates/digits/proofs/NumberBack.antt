@@ -1,42 +1,47 @@
 -- A number that is written is read back.
 -- Assumes nothing.
-use Prim.Native.Nat.{ℕ, zero, suc, ◌+◌, ◌*◌, ◌/◌, ◌%◌, ◌^◌, ◌≤◌, ◌<◌}
+use Prim.Native.Nat.{ℕ, zero, suc, ◌+◌, ◌-◌, ◌*◌, ◌/◌, ◌%◌, ◌^◌, ◌≤◌, ◌<◌}
 use native.Mathlib.Nat.{pow-suc}
 use native.Mathlib.Numerals.{one-add}
 use native.Mathlib.Omega.{arith}
-use mathlib.Core.Path.{◌≡◌, refl, sym, ap, ap₂, ◌∙◌, subst}
-use mathlib.Core.Bool.{Bool, true, false}
+use mathlib.Core.Path.{◌≡◌, refl, sym, ap, ap₂, ◌∙◌}
+use mathlib.Core.Bool.{Bool, true, false, ◌&&◌}
 use mathlib.Core.List.{List, [], ◌∷◌, ◌++◌, append-nil, append_assoc}
-use lib.Dec.{ltb, leb, eqb, eqb→eq}
+use lib.Dec.{ltb, eqb}
 use lib.ListN.{length, take, drop, length-append}
 use lib.Seq.{take_all, length-take-le, drop_at}
 use borrow.Author.Tests.{le-leb, eqb-true, ltb-true, ltb-false}
+use Rattle.std.specs.Prelude.{Result, Ok}
+use Rattle.std.specs.Char.{is_ascii_digit}
+use Rattle.std.proofs.lemmas.Bool.{both_ways}
+use Rattle.std.proofs.lemmas.List.Folds.{list_all-append}
 use Rattle.words.specs.Words.{pick, concat}
-use Rattle.words.proofs.Words.{each}
 use Rattle.lines.specs.Lines.{blank, blanks, word_length, skipped, word_end, between}
 use Rattle.text.specs.Writing.{written, decimals, decimal, number}
 use Rattle.text.specs.Claims.{line}
 use Rattle.text.proofs.Joined.{joined}
-use Rattle.digits.specs.declared.Number.TheVariants.{Is}
-use Rattle.digits.specs.Hex.{digit}
-use Rattle.digits.specs.Decimal.{are_decimal, value_on, value_of, read_number}
+use Rattle.digits.specs.declared.Number.{Number}
+use Rattle.digits.specs.Decimal.{are_decimal, value_on, value_of, number_of, read_number}
 use Rattle.digits.specs.Claims.{NumberBack}
-use Rattle.digits.proofs.Decimal.{front_digit, number_is, number_at}
 
--- the ten digits, by one computed test
-digit_of : (m : ℕ) → m < 10 → digit (48 + m) ≡ m
-digit_of m h = eqb→eq (digit (48 + m)) m (each (λ (k : ℕ). eqb (digit (48 + k)) k) 10 tt m h)
+-- the first of digits, and the others
+both : (a b : Bool) → (a && b) ≡ true → (a ≡ true) × (b ≡ true)
+both true b h = (refl, h)
+both false b h = absurd (both_ways false refl h)
+
+front_digit : (x : ℕ) (xs : List ℕ) → are_decimal (x ∷ xs) ≡ true → (is_ascii_digit x ≡ true) × (are_decimal xs ≡ true)
+front_digit x xs h = both (is_ascii_digit x) (are_decimal xs) h
+
+is_digit : (m : ℕ) → m < 10 → is_ascii_digit (48 + m) ≡ true
+is_digit m h = simp (le-leb 48 (48 + m) (omega arith), le-leb (48 + m) 57 (omega arith))
 
 -- a digit behind digits
-decimal_snoc : (xs : List ℕ) (x : ℕ) → are_decimal xs ≡ true → digit x ≤ 9 → are_decimal (xs ++ (x ∷ [])) ≡ true
-decimal_snoc [] x e h = simp (le-leb (digit x) 9 h)
-decimal_snoc (y ∷ ys) x e h =
-    let d = front_digit y ys (leb (digit y) 9) refl e in
-    simp (le-leb (digit y) 9 d.0) (decimal_snoc ys x d.1 h)
+decimal_snoc : (xs : List ℕ) (m : ℕ) → are_decimal xs ≡ true → m < 10 → are_decimal (xs ++ ((48 + m) ∷ [])) ≡ true
+decimal_snoc xs m e h = list_all-append is_ascii_digit xs ((48 + m) ∷ []) ∙ simp (e, is_digit m h)
 
-value_snoc : (xs : List ℕ) (x v : ℕ) → value_on v (xs ++ (x ∷ [])) ≡ value_on v xs * 10 + digit x
+value_snoc : (xs : List ℕ) (x v : ℕ) → value_on v (xs ++ (x ∷ [])) ≡ value_on v xs * 10 + (x - 48)
 value_snoc [] x v = refl
-value_snoc (y ∷ ys) x v = value_snoc ys x (v * 10 + digit y)
+value_snoc (y ∷ ys) x v = value_snoc ys x (v * 10 + (y - 48))
 
 -- a number in decimal, by whether it has one digit
 module _ (k n : ℕ) where
@@ -44,17 +49,12 @@ module _ (k n : ℕ) where
   more = decimals k (n / 10) ++ ((48 + n % 10) ∷ [])
 
   decimal_by : (b : Bool) → ltb n 10 ≡ b → are_decimal (decimals k (n / 10)) ≡ true → are_decimal (pick b ((48 + n) ∷ []) more) ≡ true
-  decimal_by true e h = decimal_snoc [] (48 + n) refl (omega (arith, digit_of n (ltb-true n 10 e), ltb-true n 10 e))
-  decimal_by false e h =
-      let small : n % 10 < 10 = omega arith in
-      decimal_snoc (decimals k (n / 10)) (48 + n % 10) h (omega (arith, digit_of (n % 10) small))
+  decimal_by true e h = decimal_snoc [] n refl (ltb-true n 10 e)
+  decimal_by false e h = decimal_snoc (decimals k (n / 10)) (n % 10) h (omega arith)
 
   value_by : (b : Bool) → ltb n 10 ≡ b → value_of (decimals k (n / 10)) ≡ n / 10 → value_of (pick b ((48 + n) ∷ []) more) ≡ n
-  value_by true e h = let d = digit_of n (ltb-true n 10 e) in omega arith
-  value_by false e h =
-      let small : n % 10 < 10 = omega arith in
-      let d = digit_of (n % 10) small in
-      value_snoc (decimals k (n / 10)) (48 + n % 10) 0 ∙ omega arith
+  value_by true e h = omega arith
+  value_by false e h = value_snoc (decimals k (n / 10)) (48 + n % 10) 0 ∙ omega arith
 
   length_by : (j : ℕ) (b : Bool) → ltb n 10 ≡ b → (10 ≤ n → 1 + length (decimals k (n / 10)) ≤ suc j) → length (pick b ((48 + n) ∷ []) more) ≤ suc j
   length_by j true e h = omega arith
@@ -82,23 +82,23 @@ decimals_length (suc k) (suc j) n h =
     length_by k n (suc j) (ltb n 10) refl (λ g. omega (arith, decimals_length k j (n / 10) (omega arith)))
 
 -- a digit is no blank
-blank_by : (x : ℕ) (b c : Bool) → eqb x 32 ≡ b → eqb x 9 ≡ c → digit x ≤ 9 → pick b true c ≡ false
-blank_by x true c e f h = absurd (omega (arith, subst (λ (y : ℕ). digit y ≤ 9) (eqb-true x 32 e) h))
-blank_by x false true e f h = absurd (omega (arith, subst (λ (y : ℕ). digit y ≤ 9) (eqb-true x 9 f) h))
+blank_by : (x : ℕ) (b c : Bool) → eqb x 32 ≡ b → eqb x 9 ≡ c → is_ascii_digit x ≡ true → pick b true c ≡ false
+blank_by x true c e f h = absurd (both_ways (is_ascii_digit x) (ap is_ascii_digit (eqb-true x 32 e)) h)
+blank_by x false true e f h = absurd (both_ways (is_ascii_digit x) (ap is_ascii_digit (eqb-true x 9 f)) h)
 blank_by x false false e f h = refl
 
-no_blank : (x : ℕ) → digit x ≤ 9 → blank x ≡ false
+no_blank : (x : ℕ) → is_ascii_digit x ≡ true → blank x ≡ false
 no_blank x h = blank_by x (eqb x 32) (eqb x 9) refl refl h
 
 no_blanks : (xs : List ℕ) → are_decimal xs ≡ true → blanks xs ≡ 0
 no_blanks [] e = refl
-no_blanks (x ∷ xs) e = let d = front_digit x xs (leb (digit x) 9) refl e in simp (no_blank x d.0)
+no_blanks (x ∷ xs) e = simp (no_blank x (front_digit x xs e).0)
 
 -- digits are a word, up to its end
 pub word_before : (xs ys : List ℕ) → are_decimal xs ≡ true → word_length ys ≡ 0 → word_length (xs ++ ys) ≡ length xs
 word_before [] ys e f = f
 word_before (x ∷ xs) ys e f =
-    let d = front_digit x xs (leb (digit x) 9) refl e in
+    let d = front_digit x xs e in
     simp (no_blank x d.0) (ap (λ (k : ℕ). 1 + k) (word_before xs ys d.1 f) ∙ one-add (length xs))
 
 whole_word : (xs : List ℕ) → are_decimal xs ≡ true → word_length xs ≡ length xs
@@ -125,11 +125,14 @@ module _ (start digits : List ℕ) (at : ℕ) (l : length start ≡ at) (are : a
       let long : length whole ≡ length start + suc (length digits) = length-append start (32 ∷ digits) in
       ap (drop (at + 1)) (take_all (at + 1 + length digits) whole (omega arith)) ∙ behind
 
-  found : 1 ≤ length digits → length digits ≤ 9 → read_number whole at ≡ Is (value_of digits) (at + 1 + length digits)
+  found : 1 ≤ length digits → length digits ≤ 9
+      → read_number whole at ≡ Ok (record { value = value_of digits; next = at + 1 + length digits })
   found some few =
-      sym
-      (number_at whole at {start = at + 1} {next = at + 1 + length digits} {fronted = take (at + 1 + length digits) whole} {part = digits}
-      (sym first_digit) (sym last_digit) refl (sym word) (number_is digits (at + 1) (at + 1 + length digits) some few are (value_of digits) refl))
+      let run : ℕ → ℕ → Result Number ℕ = λ (a b : ℕ). number_of (between whole a b) a b in
+      ap (λ (a : ℕ). run a (word_end whole a)) first_digit
+      ∙ ap (run (at + 1)) last_digit
+      ∙ ap (λ (w : List ℕ). number_of w (at + 1) (at + 1 + length digits)) word
+      ∙ simp (le-leb 1 (length digits) some, le-leb (length digits) 9 few, are)
 
 pub number_back : NumberBack
 number_back text at n small room =
@@ -143,4 +146,4 @@ number_back text at n small room =
     let text_is : line (written text at (number n)) ≡ take at text ++ (32 ∷ digits) = is.0 ∙ ap (λ (xs : List ℕ). take at text ++ xs) parts in
     ap (λ (xs : List ℕ). read_number xs at) text_is
     ∙ found (take at text) digits at l are (some_by 19 n (ltb n 10)) (decimals_length 20 8 n (omega arith))
-    ∙ ap₂ (λ (v p : ℕ). Is v p) value (sym end)
+    ∙ ap₂ (λ (v p : ℕ). Ok (record { value = v; next = p })) value (sym end)

@@ -1,13 +1,10 @@
 -- What is promised of reading: what is written is read back, and what a buffer held before does not matter.
 -- Assumes nothing.
-use Rattle.std.specs.Prelude.{ℕ, ◌+◌, ◌*◌, ◌^◌, ◌≤◌, ◌<◌, ◌≡◌, List, ◌++◌, length, drop}
+use Rattle.std.specs.Prelude.{ℕ, ◌+◌, ◌*◌, ◌^◌, ◌≤◌, ◌<◌, ◌≡◌, List, ◌++◌, length, drop, Result, Ok, Err}
 use Rattle.words.specs.Words.{Bytes}
 use Rattle.lines.specs.Lines.{fore}
 use Rattle.text.specs.Writing.{written, hexes, decimal, number}
 use Rattle.text.specs.Claims.{line}
-use Rattle.digits.specs.declared.Bytes.{Bytes as Read}
-use Rattle.digits.specs.declared.Bytes.TheVariants.{Are, Wrong}
-use Rattle.digits.specs.declared.Number.TheVariants.{Is}
 use Rattle.digits.specs.Hex.{read_bytes}
 use Rattle.digits.specs.Decimal.{read_number}
 
@@ -17,12 +14,12 @@ abbrev pub BytesBack : Type 0
 BytesBack =
     (text bytes buffer : List ℕ) (at : ℕ) → Bytes bytes → at + 3 * length bytes ≤ length text → length bytes ≤ length buffer
     → read_bytes (line (written text at (hexes bytes))) at buffer
-    ≡ record { answer = Are (length bytes); bytes = bytes ++ drop (length bytes) buffer }
+    ≡ record { answer = Ok (length bytes); bytes = bytes ++ drop (length bytes) buffer }
 
 -- how many bytes were read, none where one was wrong
-abbrev pub count_of : Read → ℕ
-count_of (Are n) = n
-count_of (Wrong place) = 0
+abbrev pub count_of : Result ℕ ℕ → ℕ
+count_of (Ok n) = n
+count_of (Err place) = 0
 
 -- of what a buffer held before, only its length matters
 abbrev pub Fresh : Type 0
@@ -36,4 +33,4 @@ Fresh =
 abbrev pub NumberBack : Type 0
 NumberBack =
     (text : List ℕ) (at n : ℕ) → n < 10 ^ 9 → at + 1 + length (decimal n) ≤ length text
-    → read_number (line (written text at (number n))) at ≡ Is n (written text at (number n)).answer
+    → read_number (line (written text at (number n))) at ≡ Ok (record { value = n; next = (written text at (number n)).answer })

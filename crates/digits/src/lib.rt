@@ -4,140 +4,97 @@
 
 ghost use Rattle.std.specs.Prelude.{◌≡◌, true, ◌≤◌, length};
 ghost use Rattle.words.specs.Contract.{Is};
-ghost use Rattle.digits.specs.Hex.{byte_of, read_bytes};
-ghost use Rattle.digits.specs.Hex.{digit as Hex·digit};
+ghost use Rattle.digits.specs.Hex.{digit, byte_of, read_bytes};
 ghost use Rattle.digits.specs.Decimal.{are_decimal, value_of, number_of, read_number};
 
-// A digit, or 16 for what is none.
-fn digit(byte: u8) -> u8
-    ensures { result ≡ Hex·digit byte }
+// What a hex digit stands for. No to_digit, which is of a char.
+fn digit(byte: u8) -> Option<u8>
+    ensures { result ≡ digit byte }
 {
-    if byte < b'0' {
-        return 16;
+    match byte {
+        b'0'..=b'9' => Some(byte - b'0'),
+        b'A'..=b'F' => Some(byte - b'A' + 10),
+        b'a'..=b'f' => Some(byte - b'a' + 10),
+        _ => None,
     }
-    if byte <= b'9' {
-        return byte - b'0';
-    }
-    if byte < b'A' {
-        return 16;
-    }
-    if byte <= b'F' {
-        return byte - b'A' + 10;
-    }
-    if byte < b'a' {
-        return 16;
-    }
-    if byte <= b'f' {
-        return byte - b'a' + 10;
-    }
-    16
 }
 
-// The byte that two digits spell, or 256 where one of them is none.
-fn byte_of(high: u8, low: u8) -> u16
+// The byte that two digits spell.
+fn byte_of(high: u8, low: u8) -> Option<u8>
     ensures { result ≡ byte_of high low }
 {
-    let higher = digit(high);
-    if 15 < higher {
-        return 256;
-    }
-    let lower = digit(low);
-    if 15 < lower {
-        return 256;
-    }
-    higher as u16 * 16 + lower as u16
+    Some(digit(high)? * 16 + digit(low)?)
 }
 
-// How many bytes there are, or the place that is no pair or has no room.
-#[derive(Clone, Copy)]
-pub enum Bytes {
-    Are(usize),
-    Wrong(usize),
-}
-
-// Reads pairs of hex digits up to the end of the line, to the front of bytes.
-pub fn read_bytes(line: &[u8], from: usize, bytes: &mut [u8]) -> Bytes
+// Reads pairs of hex digits up to the end of the line, to the front of bytes: how many there are, or the place that is no pair or has no room.
+// A place is all that is known here of what is wrong, and all that the error has. The loop goes by places for that, and blanks between pairs are of
+// any number, so that no iterator of pairs would do.
+pub fn read_bytes(line: &[u8], from: usize, bytes: &mut [u8]) -> Result<usize, usize>
     ensures { Is (read_bytes line.now from bytes.old) result bytes.new }
 {
-    let mut i = from;
+    let mut place = from;
     let mut n = 0;
     loop {
-        let start = lines::skip(line, i);
-        if line.len() <= start {
-            return Bytes::Are(n);
+        place = lines::skip(line, place);
+        match lines::after(line, place) {
+            [] => return Ok(n),
+            [high, low, ..] => {
+                let Some(value) = byte_of(*high, *low) else {
+                    return Err(place);
+                };
+                if bytes.len() <= n {
+                    return Err(place);
+                }
+                bytes[n] = value;
+                n += 1;
+                place += 2;
+            }
+            _ => return Err(place),
         }
-        if line.len() - start < 2 {
-            return Bytes::Wrong(start);
-        }
-        let value = byte_of(line[start], line[start + 1]);
-        if 255 < value {
-            return Bytes::Wrong(start);
-        }
-        if bytes.len() <= n {
-            return Bytes::Wrong(start);
-        }
-        bytes[n] = value as u8;
-        n += 1;
-        i = start + 2;
     }
 }
 
-// A number and the place behind it, or the place of the word that is none.
+// A number read, and the place behind it.
 #[derive(Clone, Copy)]
-pub enum Number {
-    Is { value: usize, next: usize },
-    Wrong(usize),
+pub struct Number {
+    pub value: usize,
+    pub next: usize,
 }
 
 fn are_decimal(word: &[u8]) -> bool
     ensures { result ≡ are_decimal word.now }
 {
-    let mut i = 0;
-    while i < word.len() {
-        if 9 < digit(word[i]) {
-            return false;
-        }
-        i += 1;
-    }
-    true
+    word.iter().all(|byte| byte.is_ascii_digit())
 }
 
-// The value of up to nine digits.
+// The value of up to nine digits. No parse, which is of a &str.
 fn value_of(word: &[u8]) -> usize
     requires digits { are_decimal word.now ≡ true }
     requires at_most_nine { length word.now ≤ 9 }
     ensures { result ≡ value_of word.now }
 {
     let mut value: usize = 0;
-    let mut i = 0;
-    while i < word.len() {
-        value = value * 10 + digit(word[i]) as usize;
-        i += 1;
+    for byte in word {
+        value = value * 10 + (*byte - b'0') as usize;
     }
     value
 }
 
-// The number that a word spells, if it has one to nine digits.
-fn number_of(word: &[u8], start: usize, next: usize) -> Number
+// The number that a word spells, if it has one to nine digits; otherwise the place where it starts.
+fn number_of(word: &[u8], start: usize, next: usize) -> Result<Number, usize>
     ensures { result ≡ number_of word.now start next }
 {
-    if word.len() == 0 {
-        return Number::Wrong(start);
+    if word.is_empty() || 9 < word.len() || !are_decimal(word) {
+        return Err(start);
     }
-    if 9 < word.len() {
-        return Number::Wrong(start);
-    }
-    if are_decimal(word) {
-        return Number::Is {
-            value: value_of(word),
-            next,
-        };
-    }
-    Number::Wrong(start)
+    Ok(Number {
+        value: value_of(word),
+        next,
+    })
 }
 
-// Reads a decimal number of one to nine digits.
-pub fn read_number(line: &[u8], from: usize) -> Number
+// Reads a decimal number of one to nine digits, or tells the place of the word that is none.
+pub fn read_number(line: &[u8], from: usize) -> Result<Number, usize>
     ensures { result ≡ read_number line.now from }
 {
     let start = lines::skip(line, from);

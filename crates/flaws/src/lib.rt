@@ -11,23 +11,14 @@ use model::{Flaw, Form, WrongByte};
 fn is_known_event(event: u8) -> bool
     ensures { result ≡ is_known_event event }
 {
-    match event {
-        0x01 => true,
-        0x02 => true,
-        0x08 => true,
-        0x10 => true,
-        _ => false,
-    }
+    matches!(event, 0x01 | 0x02 | 0x08 | 0x10)
 }
 
 // One of the four, and its own bit was not set in WU source.
 fn is_disabled(source: u8, event: u8) -> bool
     ensures { result ≡ (is_known_event event && not (is_event source event)) }
 {
-    if is_known_event(event) {
-        return !table::is_event(source, event);
-    }
-    false
+    is_known_event(event) && !table::is_event(source, event)
 }
 
 // What is wrong with a byte that should be an event.
@@ -35,14 +26,8 @@ fn event_flaw(form: Form, event: u8) -> Flaw
     ensures { result ≡ event_flaw form event }
 {
     match form {
-        Form::Exactly { count: _ } => Flaw::NoEvent,
-        Form::Counted => Flaw::NoEvent,
-        Form::Awake { source } => if is_disabled(source, event) {
-            Flaw::NotEnabled
-        } else {
-            Flaw::NoEvent
-        },
-        Form::Single => Flaw::NoEvent,
+        Form::Awake { source } if is_disabled(source, event) => Flaw::NotEnabled,
+        _ => Flaw::NoEvent,
     }
 }
 

@@ -3,16 +3,16 @@
 #![tactic(auto)]
 
 ghost use Rattle.std.specs.Prelude.{[], ◌∷◌};
-ghost use Rattle.text.specs.Writing.{Puts};
+ghost use Rattle.text.specs.Adding.{Adds};
 ghost use Rattle.help.specs.Page.{page};
 
-// Puts the page at a place of a text.
-pub fn put(text: &mut [u8], at: usize) -> usize
-    ensures { Puts text.old at (page ∷ []) result text.new }
+use text::Text;
+
+// Puts the page.
+pub fn put(text: &mut Text)
+    ensures { Adds text.old (page ∷ []) text.new }
 {
-    text::put(
-        text,
-        at,
+    text.put(
         b"power-on uart        power was given; or power-on spi     ok [STATE]
 pulse                a low pulse on IRQ_IN was given      ok [STATE]
 idn                  IDN, to be sent                      sent BYTES [STATE]
@@ -69,5 +69,5 @@ STATE           power-up, ready, selected P, waiting idn (or select, send,
 A call may answer 'refused N', and a line that is no call answers
 'error: line L, column C: ..'. BYTES are pairs of hex digits, N is decimal.
 docs/CALLS.md has every call, every answer, and what to do about each refusal.",
-    )
+    );
 }

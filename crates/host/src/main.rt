@@ -3,13 +3,12 @@
 
 #![tactic(auto)]
 
-ghost use Rattle.std.specs.Prelude.{◌≤◌};
-
 use desk::Post;
 use std::env::{Env, FillError};
 use std::fs::File;
 use std::io::{Read, Write};
 use std::{io, str};
+use text::Text;
 
 // Room for the longest line with a carriage return, and for one byte more, by which a longer line is known.
 const LINE: usize = desk::LONGEST + 2;
@@ -23,215 +22,151 @@ const BUFFER: usize = 4096;
 // Room for the longest answer: all bytes of the longest line, three places each.
 const TEXT: usize = 8192;
 
-// What is kept from line to line.
-#[derive(Clone, Copy)]
+// Why the program ends before its input does.
+#[derive(Drop)]
+enum Failure {
+    Read(io::Error),
+    Write(io::Error),
+}
+
+// What is kept from line to line, and the buffers that are lent for each, made once.
+#[derive(Drop)]
 struct Keeper {
     post: Post,
-    // how many bytes of the next line are in
-    n: usize,
     // how many lines there were, and how many of them were answered error:
     count: u64,
     errors: u64,
-    // an answer could not be written
-    is_over: bool,
-}
-
-fn begun() -> Keeper {
-    Keeper {
-        post: Post {
-            session: session::unpowered(),
-            out: reading::LONGEST,
-            room: reading::LONGEST,
-        },
-        n: 0,
-        count: 0,
-        errors: 0,
-        is_over: false,
-    }
-}
-
-// One more, as far as 64 bits go.
-fn following(count: u64) -> u64 {
-    if count < u64::MAX {
-        return count + 1;
-    }
-    count
+    // the next line, and how many bytes of it are in; its room is made once, as that of the others
+    line: [u8; LINE],
+    n: usize,
+    bytes: [u8; BYTES],
+    out: [u8; reading::LONGEST],
+    room: [u8; reading::LONGEST],
+    text: [u8; TEXT],
 }
 
 // The line without the carriage return before its end.
 fn trimmed(line: &[u8]) -> &[u8] {
-    if line.len() == 0 {
-        return line;
+    match line {
+        [front @ .., b'\r'] => front,
+        _ => line,
     }
-    let end = line.len() - 1;
-    if line[end] == b'\r' {
-        return &line[0..end];
+}
+
+// Writes an answer of n bytes, with a line end.
+fn tell(rt: &HostRuntime, text: &mut [u8], n: usize) -> io::Result<()> {
+    if n == 0 {
+        return Ok(());
     }
-    line
+    let mut answer = Text { bytes: text, at: n };
+    answer.put(b"\n");
+    let end = answer.at;
+    rt.stdout().write_all(lines::front(text, end))
+}
+
+impl Keeper {
+    fn new() -> Keeper {
+        Keeper {
+            post: Post {
+                session: session::unpowered(),
+                out: reading::LONGEST,
+                room: reading::LONGEST,
+            },
+            count: 0,
+            errors: 0,
+            line: [0; LINE],
+            n: 0,
+            bytes: [0; BYTES],
+            out: [0; reading::LONGEST],
+            room: [0; reading::LONGEST],
+            text: [0; TEXT],
+        }
+    }
+
+    // Answers the line that is in, and begins the next.
+    fn answer(&mut self, rt: &HostRuntime) -> Result<(), Failure> {
+        self.count = self.count.saturating_add(1);
+        let done = desk::answer(
+            trimmed(lines::front(&self.line, self.n)),
+            self.count,
+            self.post,
+            &mut self.bytes,
+            &mut self.out,
+            &mut self.room,
+            &mut self.text,
+        );
+        self.post = done.post;
+        self.n = 0;
+        if lines::front(&self.text, done.n).starts_with(b"error:") {
+            self.errors = self.errors.saturating_add(1);
+        }
+        tell(rt, &mut self.text, done.n).map_err(Failure::Write)
+    }
+
+    // Keeps a part of the next line, as far as there is room.
+    fn keep(&mut self, part: &[u8]) {
+        let left = LINE.saturating_sub(self.n);
+        let mut line = Text {
+            bytes: &mut self.line,
+            at: self.n,
+        };
+        line.put(lines::front(part, left));
+        self.n = line.at;
+    }
+
+    // Answers each line that ends in what was read, and keeps what comes behind the last.
+    fn take(&mut self, rt: &HostRuntime, read: &[u8]) -> Result<(), Failure> {
+        let mut rest = read;
+        while let Some(end) = rest.iter().position(|byte| *byte == b'\n') {
+            self.keep(&rest[..end]);
+            self.answer(rt)?;
+            rest = &rest[end + 1..];
+        }
+        self.keep(rest);
+        Ok(())
+    }
+
+    // Answers all lines of what is read.
+    fn take_all<R: Read + Drop>(&mut self, rt: &HostRuntime, mut input: R) -> Result<(), Failure> {
+        let mut buffer = [0; BUFFER];
+        for _ in 0..u64::MAX {
+            let n = input.read(&mut buffer).map_err(Failure::Read)?;
+            if n == 0 {
+                break;
+            }
+            self.take(rt, &buffer[..n])?;
+        }
+        if self.n > 0 {
+            self.answer(rt)?;
+        }
+        Ok(())
+    }
 }
 
 // What failed, on standard error; where that fails too, nobody can be told.
 fn complain(rt: &HostRuntime, what: &str, error: &io::Error) {
-    let _told = eprintln!(rt; "{what}: {error}").is_ok();
-}
-
-// Writes an answer of n bytes, with a line end, and answers whether that was done.
-fn tell(rt: &HostRuntime, text: &mut [u8], n: usize) -> bool {
-    if n == 0 {
-        return true;
-    }
-    let end = text::put(text, n, b"\n");
-    match rt.stdout().write_all(lines::front(text, end)) {
-        Ok(()) => true,
-        Err(error) => {
-            complain(rt, "host: standard output", &error);
-            false
-        }
-    }
-}
-
-// Answers a line.
-fn answer(
-    rt: &HostRuntime,
-    k: Keeper,
-    line: &[u8],
-    bytes: &mut [u8],
-    out: &mut [u8],
-    room: &mut [u8],
-    text: &mut [u8],
-) -> Keeper {
-    let post = k.post;
-    let count = following(k.count);
-    let done = desk::answer(trimmed(line), count, post, bytes, out, room, text);
-    let post = done.post;
-    let n = done.n;
-    let errors = if lines::are_same(lines::front(lines::front(text, n), 6), b"error:") {
-        following(k.errors)
-    } else {
-        k.errors
-    };
-    Keeper {
-        post,
-        n: 0,
-        count,
-        errors,
-        is_over: !tell(rt, text, n),
-    }
-}
-
-// Keeps a part of the next line, as far as there is room.
-fn keep(k: Keeper, part: &[u8], line: &mut [u8]) -> Keeper {
-    let post = k.post;
-    let left = if k.n < line.len() {
-        line.len() - k.n
-    } else {
-        0
-    };
-    Keeper {
-        post,
-        n: text::put(line, k.n, lines::front(part, left)),
-        count: k.count,
-        errors: k.errors,
-        is_over: k.is_over,
-    }
-}
-
-// The place of the first line end from a place on, or the end.
-fn line_end(read: &[u8], from: usize) -> usize
-    ensures { from ≤ result }
-{
-    let mut i = from;
-    while i < read.len() {
-        if read[i] == b'\n' {
-            return i;
-        }
-        i += 1;
-    }
-    i
-}
-
-// Answers each line that ends in what was read, and keeps what comes behind the last.
-fn take_all(
-    rt: &HostRuntime,
-    read: &[u8],
-    k: Keeper,
-    line: &mut [u8],
-    bytes: &mut [u8],
-    out: &mut [u8],
-    room: &mut [u8],
-    text: &mut [u8],
-) -> Keeper {
-    let mut k = k;
-    let mut from = 0;
-    while from < read.len() && !k.is_over {
-        let end = line_end(read, from);
-        k = keep(k, lines::after(lines::front(read, end), from), line);
-        from = end;
-        if end < read.len() {
-            from = end + 1;
-            k = answer(rt, k, lines::front(line, k.n), bytes, out, room, text);
-        }
-    }
-    k
-}
-
-fn tell_errors(rt: &HostRuntime, errors: u64) {
-    let _told = eprintln!(rt; "host: lines answered error: {errors}").is_ok();
+    let _ = eprintln!(rt; "{what}: {error}");
 }
 
 // Answers all lines of what is read, by its name.
 fn run<R: Read + Drop>(rt: &HostRuntime, input: R, name: &str, is_strict: bool) {
-    let mut input = input;
-    let mut buffer = [0u8; BUFFER];
-    let mut line = [0u8; LINE];
-    let mut bytes = [0u8; BYTES];
-    let mut out = [0u8; reading::LONGEST];
-    let mut room = [0u8; reading::LONGEST];
-    let mut text = [0u8; TEXT];
-    let mut k = begun();
-    for _ in 0..u64::MAX {
-        let n = match input.read(&mut buffer) {
-            Ok(n) => n,
-            Err(error) => {
-                complain(rt, name, &error);
-                return;
-            }
-        };
-        if n == 0 {
-            break;
+    let mut keeper = Keeper::new();
+    match keeper.take_all(rt, input) {
+        Ok(()) => {}
+        Err(Failure::Read(error)) => {
+            complain(rt, name, &error);
+            return;
         }
-        k = take_all(
-            rt,
-            &buffer[..n],
-            k,
-            &mut line,
-            &mut bytes,
-            &mut out,
-            &mut room,
-            &mut text,
-        );
-        if k.is_over {
-            break;
-        }
+        Err(Failure::Write(error)) => complain(rt, "host: standard output", &error),
     }
-    if k.n > 0 && !k.is_over {
-        k = answer(
-            rt,
-            k,
-            lines::front(&line, k.n),
-            &mut bytes,
-            &mut out,
-            &mut room,
-            &mut text,
-        );
-    }
-    if is_strict && k.errors > 0 {
-        tell_errors(rt, k.errors);
+    let errors = keeper.errors;
+    if is_strict && errors > 0 {
+        let _ = eprintln!(rt; "host: lines answered error: {errors}");
     }
 }
 
 fn run_file(rt: &HostRuntime, path: &[u8], is_strict: bool) {
-    if lines::are_same(path, b"-") {
+    if path == b"-".as_slice() {
         run(rt, rt.stdin(), "host: standard input", is_strict);
         return;
     }
@@ -250,24 +185,17 @@ fn run_file(rt: &HostRuntime, path: &[u8], is_strict: bool) {
 // Room for the longest argument.
 const ARGUMENT: usize = 4096;
 
-// How long an argument is that stands at the front of the buffer then; 0 for one that it has no room for, and that names no file.
-fn argument(rt: &HostRuntime, place: usize, buffer: &mut [u8]) -> Option<usize> {
-    match rt.arg(place, buffer) {
-        Ok(n) => Some(n),
-        Err(FillError::NotPresent) => None,
-        Err(FillError::TooLong) => Some(0),
-    }
-}
-
 fn main(rt: HostRuntime) {
-    let mut word = [0u8; ARGUMENT];
-    let is_strict = match argument(&rt, 1, &mut word) {
-        Some(n) => lines::are_same(lines::front(&word, n), b"--strict"),
-        None => false,
+    let mut word = [0; ARGUMENT];
+    let is_strict = match rt.arg(1, &mut word) {
+        Ok(n) => lines::front(&word, n) == b"--strict".as_slice(),
+        Err(_) => false,
     };
     let place = if is_strict { 2 } else { 1 };
-    match argument(&rt, place, &mut word) {
-        Some(n) => run_file(&rt, lines::front(&word, n), is_strict),
-        None => run_file(&rt, b"-", is_strict),
+    match rt.arg(place, &mut word) {
+        Ok(n) => run_file(&rt, lines::front(&word, n), is_strict),
+        Err(FillError::NotPresent) => run_file(&rt, b"-", is_strict),
+        // it names no file
+        Err(FillError::TooLong) => run_file(&rt, b"", is_strict),
     }
 }

@@ -3,14 +3,14 @@
 #![tactic(auto)]
 
 ghost use Rattle.std.specs.Prelude.{◌≡◌};
-ghost use Rattle.model.specs.Frames.{row, obeys, kind_of, permits, is};
+ghost use Rattle.model.specs.Frames.{entry, row, obeys, kind_of, permits, is};
 ghost use Rattle.model.specs.Replies.{form_of};
 
-use model::{Awaited, Coded, Form, Kind, Row, Rule};
+use model::{Awaited, Form, Kind, Row, Rule};
 
 // The code, the least and the greatest number of data bytes, and the field rule.
 fn entry(code: u8, least: usize, greatest: usize, rule: Rule) -> Row
-    ensures { result ≡ Rattle.model.specs.Frames.entry code least greatest rule }
+    ensures { result ≡ entry code least greatest rule }
 {
     Row {
         code,
@@ -44,42 +44,43 @@ pub fn code_of(kind: Kind) -> u8
 pub fn form_of(awaited: Awaited) -> Form
     ensures { result ≡ form_of awaited }
 {
-    let kind = awaited.kind;
-    let first = awaited.first;
-    match kind {
+    match awaited.kind {
         Kind::Idn => Form::Exactly { count: 15 },
         Kind::ProtocolSelect => Form::Exactly { count: 0 },
         Kind::SendRecv => Form::Counted,
-        Kind::Idle => Form::Awake { source: first },
+        Kind::Idle => Form::Awake {
+            source: awaited.first,
+        },
         Kind::RdReg => Form::Exactly { count: 1 },
         Kind::WrReg => Form::Exactly { count: 0 },
         Kind::Echo => Form::Single,
     }
 }
 
-pub fn kind_of(code: u8) -> Coded
+// No TryFrom: an impl stands with its type, and the model has types alone.
+pub fn kind_of(code: u8) -> Option<Kind>
     ensures { result ≡ kind_of code }
 {
     match code {
-        0x01 => Coded::Known(Kind::Idn),
-        0x02 => Coded::Known(Kind::ProtocolSelect),
-        0x04 => Coded::Known(Kind::SendRecv),
-        0x07 => Coded::Known(Kind::Idle),
-        0x08 => Coded::Known(Kind::RdReg),
-        0x09 => Coded::Known(Kind::WrReg),
-        0x55 => Coded::Known(Kind::Echo),
-        _ => Coded::Unknown,
+        0x01 => Some(Kind::Idn),
+        0x02 => Some(Kind::ProtocolSelect),
+        0x04 => Some(Kind::SendRecv),
+        0x07 => Some(Kind::Idle),
+        0x08 => Some(Kind::RdReg),
+        0x09 => Some(Kind::WrReg),
+        0x55 => Some(Kind::Echo),
+        _ => None,
     }
 }
 
-// A command is the one named.
+// A command is the one named, in the model's word for it, of which the theorems speak.
 pub fn are_same(kind: Kind, named: Kind) -> bool
     ensures { result ≡ is kind named }
 {
-    code_of(kind) == code_of(named)
+    kind == named
 }
 
-// A field rule holds.
+// A field rule holds. A rule is a name and no function, so that a row of the table is plain data.
 fn does_obey(rule: Rule, payload: &[u8]) -> bool
     ensures { result ≡ obeys rule payload.now }
 {
@@ -97,12 +98,5 @@ pub fn is_permitted(kind: Kind, payload: &[u8]) -> bool
     ensures { result ≡ permits kind payload.now }
 {
     let row = row_of(kind);
-    if payload.len() < row.least {
-        return false;
-    }
-    if row.greatest < payload.len() {
-        return false;
-    }
-    let rule = row.rule;
-    does_obey(rule, payload)
+    (row.least..=row.greatest).contains(&payload.len()) && does_obey(row.rule, payload)
 }

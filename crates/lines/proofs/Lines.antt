@@ -1,20 +1,22 @@
--- Comparisons at the end of either text.
+-- As many bytes are taken from the front as the rules of blanks and of words count.
 -- Assumes nothing.
-use Prim.Native.Nat.{ℕ, ◌≤◌, ◌<◌}
-use mathlib.Core.Path.{◌≡◌}
-use mathlib.Core.Bool.{Bool, true, false}
-use mathlib.Core.List.{List, []}
-use lib.Dec.{leb}
-use lib.ListN.{length, drop, drop_of_length-le}
-use lib.Seq.{drop-cons}
-use borrow.Author.Tests.{leb-true, leb-false}
-use Rattle.lines.specs.Lines.{same}
+use Rattle.std.proofs.Common.{◌≡◌, ℕ, ◌+◌, Bool, true, false, cond, not, List, [], ◌∷◌, refl, ap}
+use Rattle.std.specs.List.{prefix_len}
+use Rattle.words.specs.Words.{pick}
+use Rattle.lines.specs.Lines.{blank, blanks, word_length}
 
-module _ (xs ys : List ℕ) (i : ℕ) (in-xs : i < length xs) where
-  pub same_shorter : length ys ≤ i → false ≡ same (drop i xs) (drop i ys)
-  same_shorter h = rw (drop-cons xs i 0 in-xs, drop_of_length-le ys {i = i} h)
+one_more : (b : Bool) {m n : ℕ} → m ≡ n → cond b (1 + m) 0 ≡ pick b (1 + n) 0
+one_more true e = ap (λ (k : ℕ). 1 + k) e
+one_more false e = refl
 
--- at the end of the first
-pub same_end : (ys : List ℕ) (i : ℕ) (b : Bool) → leb (length ys) i ≡ b → b ≡ same [] (drop i ys)
-same_end ys i true e = rw (drop_of_length-le ys {i = i} (leb-true (length ys) i e))
-same_end ys i false e = rw (drop-cons ys i 0 (leb-false (length ys) i e))
+none_more : (b : Bool) {m n : ℕ} → m ≡ n → cond (not b) (1 + m) 0 ≡ pick b 0 (1 + n)
+none_more true e = refl
+none_more false e = ap (λ (k : ℕ). 1 + k) e
+
+pub blanks_first : (xs : List ℕ) → prefix_len blank xs ≡ blanks xs
+blanks_first [] = refl
+blanks_first (x ∷ xs) = one_more (blank x) (blanks_first xs)
+
+pub word_first : (xs : List ℕ) → prefix_len (λ (x : ℕ). not (blank x)) xs ≡ word_length xs
+word_first [] = refl
+word_first (x ∷ xs) = none_more (blank x) (word_first xs)

@@ -1,6 +1,6 @@
 -- Parts of a line: its front, what comes behind a place, blanks and words.
 -- Assumes nothing.
-use Rattle.std.specs.Prelude.{ℕ, ◌+◌, Bool, true, false, List, [], ◌∷◌, eqb, take, drop, get_or}
+use Rattle.std.specs.Prelude.{ℕ, ◌+◌, Bool, true, List, [], ◌∷◌, eqb, take, drop, get_or, bytes_eq}
 use Rattle.words.specs.Words.{pick}
 
 -- the first n bytes, or all where there are fewer
@@ -37,20 +37,13 @@ skipped line from = from + blanks (rest line from)
 abbrev pub word_end : List ℕ → ℕ → ℕ
 word_end line from = from + word_length (rest line from)
 
--- the end of a run from a place on: of blanks, or of what is none
-abbrev pub run_end : Bool → List ℕ → ℕ → ℕ
-run_end blanks line from = pick blanks (skipped line from) (word_end line from)
-
 -- the bytes from one place up to another
 abbrev pub between : List ℕ → ℕ → ℕ → List ℕ
 between line from end = rest (fore line end) from
 
 -- whether two texts are the same
 abbrev pub same : List ℕ → List ℕ → Bool
-same [] [] = true
-same [] (y ∷ ys) = false
-same (x ∷ xs) [] = false
-same (x ∷ xs) (y ∷ ys) = pick (eqb x y) (same xs ys) false
+same xs ys = bytes_eq xs ys
 
 -- whether the line has the word from one place to another
 abbrev pub is_word : List ℕ → ℕ → ℕ → List ℕ → Bool

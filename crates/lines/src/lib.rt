@@ -2,96 +2,77 @@
 
 #![tactic(auto)]
 
-ghost use Rattle.std.specs.Prelude.{◌≡◌};
-ghost use Rattle.lines.specs.Lines.{fore, rest, byte_at, blank, skipped, word_end, run_end, same, is_word};
+ghost use Rattle.std.specs.Prelude.{◌≡◌, ◌≤◌, ℕ, not, length};
+ghost use Rattle.std.specs.List.{prefix_len};
+ghost use Rattle.lines.specs.Lines.{fore, rest, byte_at, blank, skipped, word_end, same, is_word};
 
 // The first n bytes, or all where there are fewer.
 pub fn front(bytes: &[u8], n: usize) -> &[u8]
     ensures { result.now ≡ fore bytes.now n }
 {
-    if n <= bytes.len() {
-        return &bytes[0..n];
-    }
-    bytes
+    bytes.get(..n).unwrap_or(bytes)
 }
 
 // The bytes from a place on, none past the end.
 pub fn after(bytes: &[u8], from: usize) -> &[u8]
     ensures { result.now ≡ rest bytes.now from }
 {
-    if from <= bytes.len() {
-        return &bytes[from..];
-    }
-    &bytes[..0]
+    bytes.get(from..).unwrap_or(&[])
 }
 
-// The byte at a place, a blank past the end.
+// The byte at a place, a blank past the end, as a line is read; `settings` reads a missing byte of data as 0.
 pub fn at(bytes: &[u8], i: usize) -> u8
     ensures { result ≡ byte_at bytes.now i }
 {
-    if i < bytes.len() {
-        return bytes[i];
-    }
-    b' '
+    bytes.get(i).copied().unwrap_or(b' ')
 }
 
 fn is_blank(byte: u8) -> bool
     ensures { result ≡ blank byte }
 {
-    if byte == b' ' {
-        return true;
-    }
-    byte == b'\t'
+    byte == b' ' || byte == b'\t'
 }
 
-// The end of a run from a place on: of blanks, or of what is none.
-fn run_end(line: &[u8], from: usize, blanks: bool) -> usize
-    ensures { result ≡ run_end blanks line.now from }
+// How many blanks come first.
+fn blanks(bytes: &[u8]) -> usize
+    ensures { (result ≡ prefix_len blank bytes.now) × (result ≤ length bytes.now) }
 {
-    let mut i = from;
-    while i < line.len() {
-        if is_blank(line[i]) != blanks {
-            return i;
-        }
-        i += 1;
-    }
-    i
+    bytes.iter().take_while(|byte| is_blank(**byte)).count()
+}
+
+// How many bytes come before the first blank. Not one function over a test: each has its own word, `prefix_len` of it, in its contract.
+fn word_length(bytes: &[u8]) -> usize
+    ensures { (result ≡ prefix_len (λ (x : ℕ). not (blank x)) bytes.now) × (result ≤ length bytes.now) }
+{
+    bytes.iter().take_while(|byte| !is_blank(**byte)).count()
 }
 
 // The first place from one on that is no blank.
+#[tactic(auto, using(crate::proofs::Lines::blanks_first))]
 pub fn skip(line: &[u8], from: usize) -> usize
     ensures { result ≡ skipped line.now from }
 {
-    run_end(line, from, true)
+    from + blanks(after(line, from))
 }
 
 // The end of the word that starts at a place.
+#[tactic(auto, using(crate::proofs::Lines::word_first))]
 pub fn word_end(line: &[u8], from: usize) -> usize
     ensures { result ≡ word_end line.now from }
 {
-    run_end(line, from, false)
+    from + word_length(after(line, from))
 }
 
-// Whether two texts are the same, up to the first byte that differs.
+// Whether two texts are the same, in the word by which names are found (`same`).
 pub fn are_same(part: &[u8], word: &[u8]) -> bool
     ensures { result ≡ same part.now word.now }
 {
-    let mut i = 0;
-    while i < part.len() {
-        if word.len() <= i {
-            return false;
-        }
-        if part[i] != word[i] {
-            return false;
-        }
-        i += 1;
-    }
-    word.len() <= i
+    part == word
 }
 
 // Whether the line has the word from one place to another.
 pub fn is_word(line: &[u8], from: usize, end: usize, word: &[u8]) -> bool
     ensures { result ≡ is_word line.now from end word.now }
 {
-    are_same(after(front(line, end), from), word)
+    after(front(line, end), from) == word
 }

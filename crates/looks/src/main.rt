@@ -2,25 +2,13 @@
 
 #![tactic(auto)]
 
-use model::{
-    Answer, Awaited, Calibration, Interface, Kind, Outcome, Phase, Progress, Session, State,
-};
+use model::{Answer, Awaited, Interface, Kind, Outcome, Phase, Progress, Session, State};
 use replies::reading;
 use std::io;
 use std::io::Write;
 
 // All bytes and 00 again, so that each of the 256 looks ends where another begins. No other loop of the program has as many turns.
 const LOOKS: usize = 257;
-
-fn bytes() -> [u8; 256] {
-    let mut bytes = [0u8; 256];
-    let mut i: usize = 0;
-    while i < 256 {
-        bytes[i] = i as u8;
-        i += 1;
-    }
-    bytes
-}
 
 // A session that awaits the reply to a command.
 fn awaiting(kind: Kind, first: u8) -> Session {
@@ -33,18 +21,16 @@ fn awaiting(kind: Kind, first: u8) -> Session {
             },
             selected: 1,
         },
-        calibration: Calibration::Off,
+        calibration: None,
     }
 }
 
 // Each byte is fed to such a session.
-fn looks(sessions: [Session; 256], bytes: [u8; 256], room: &mut [u8]) -> [Outcome; 256] {
-    let mut outcomes = [session::power_on(sessions[0], Interface::Uart); 256];
-    let mut i: usize = 0;
-    while i < LOOKS {
+fn looks(session: Session, room: &mut [u8]) -> [Outcome; 256] {
+    let mut outcomes = [session::power_on(session, Interface::Uart); 256];
+    for i in 0..LOOKS {
         let at = i % 256;
-        outcomes[at] = session::pieces::feed(sessions[at], &bytes[at..at + 1], room);
-        i += 1;
+        outcomes[at] = session::pieces::feed(session, &[at as u8], room);
     }
     outcomes
 }
@@ -52,27 +38,18 @@ fn looks(sessions: [Session; 256], bytes: [u8; 256], room: &mut [u8]) -> [Outcom
 // More is to come: behind an error code, or behind a result code.
 fn mark_of(state: State) -> u8 {
     match state {
-        State::Waiting {
-            progress,
-            selected: _,
-        } => {
-            let phase = progress.phase;
-            match phase {
-                Phase::Failed { code: _ } => b'!',
-                _ => b'+',
-            }
-        }
+        State::Waiting { progress, .. } => match progress.phase {
+            Phase::Failed { .. } => b'!',
+            _ => b'+',
+        },
         _ => b'?',
     }
 }
 
 // Where a byte led: on, to a whole reply, or nowhere.
 fn mark(outcome: Outcome) -> u8 {
-    let answer = outcome.answer;
-    let session = outcome.session;
-    let state = session.state;
-    match answer {
-        Answer::More => mark_of(state),
+    match outcome.answer {
+        Answer::More => mark_of(outcome.session.state),
         Answer::Good => b'=',
         _ => b'.',
     }
@@ -81,17 +58,15 @@ fn mark(outcome: Outcome) -> u8 {
 // A line for each first digit, and in it a mark for each second.
 fn map(outcomes: [Outcome; 256]) -> [u8; 272] {
     let mut map = [b'\n'; 272];
-    let mut i: usize = 0;
-    while i < 256 {
-        map[i + i / 16] = mark(outcomes[i]);
-        i += 1;
+    for (i, outcome) in outcomes.iter().enumerate() {
+        map[i + i / 16] = mark(*outcome);
     }
     map
 }
 
 fn show(rt: &HostRuntime, name: &[u8], session: Session) -> io::Result<()> {
     let mut room = [0u8; reading::LEAST_ROOM];
-    let map = map(looks([session; 256], bytes(), &mut room));
+    let map = map(looks(session, &mut room));
     let mut screen = rt.stdout();
     screen.write_all(name)?;
     screen.write_all(&map)

@@ -1,10 +1,8 @@
 // The table of messages, a row a message: the message that a code is of, what an answer can carry, and the error codes of the MCU.
 ghost use Rattle.std.specs.Prelude.{◌≡◌};
-ghost use Rattle.model.specs.Messages.{row, named, family_byte, is_board_error, carries};
-ghost use Rattle.model.specs.Messages.{board as boardRow};
-ghost use Rattle.model.specs.Messages.{chip as chipRow};
+ghost use Rattle.model.specs.Messages.{board, chip, row, named, family_byte, is_board_error, carries};
 
-use model::{Contents, Family, Kind, Message, MessageRow, Named};
+use model::{Contents, Family, Kind, Message, MessageRow};
 
 // The bytes of a tag.
 pub const TAG_SIZE: usize = 9;
@@ -13,7 +11,7 @@ const MOST_TAGS: usize = 28;
 
 // A command of the board's: code and number of data bytes, then the code of the answer and what it carries.
 fn board(code: u8, count: usize, response: u8, contents: Contents) -> MessageRow
-    ensures { result ≡ boardRow code count response contents }
+    ensures { result ≡ board code count response contents }
 {
     MessageRow {
         family: Family::Board,
@@ -26,7 +24,7 @@ fn board(code: u8, count: usize, response: u8, contents: Contents) -> MessageRow
 
 // A command of the chip's, by the table of commands.
 fn chip(kind: Kind, contents: Contents) -> MessageRow
-    ensures { result ≡ chipRow kind contents }
+    ensures { result ≡ chip kind contents }
 {
     let row = kinds::row_of(kind);
     MessageRow {
@@ -51,17 +49,18 @@ pub fn row_of(message: Message) -> MessageRow
     }
 }
 
-pub fn message_of(code: u8) -> Named
+// No TryFrom: an impl stands with its type, and the model has types alone.
+pub fn message_of(code: u8) -> Option<Message>
     ensures { result ≡ named code }
 {
     match code {
-        0x01 => Named::Known(Message::Idn),
-        0xBC => Named::Known(Message::GetFirmwareVersion),
-        0xA1 => Named::Known(Message::Inventory),
-        0xA3 => Named::Known(Message::GoToTagDetectingState),
-        0xA2 => Named::Known(Message::IsWakeUp),
-        0xA4 => Named::Known(Message::CalibrateTagDetecting),
-        _ => Named::Unknown,
+        0x01 => Some(Message::Idn),
+        0xBC => Some(Message::GetFirmwareVersion),
+        0xA1 => Some(Message::Inventory),
+        0xA3 => Some(Message::GoToTagDetectingState),
+        0xA2 => Some(Message::IsWakeUp),
+        0xA4 => Some(Message::CalibrateTagDetecting),
+        _ => None,
     }
 }
 
@@ -70,7 +69,7 @@ pub fn family_byte(family: Family) -> u8
     ensures { result ≡ family_byte family }
 {
     match family {
-        Family::Chip { kind: _ } => 0x01,
+        Family::Chip { .. } => 0x01,
         Family::Board => 0x02,
     }
 }
@@ -79,39 +78,23 @@ pub fn family_byte(family: Family) -> u8
 pub fn is_error(code: u8) -> bool
     ensures { result ≡ is_board_error code }
 {
-    match code {
-        0xFE | 0xFD | 0xF7..=0xFA | 0xF5 | 0xF4 => true,
-        _ => false,
-    }
-}
-
-// 00 for low, 01 for high.
-fn is_level(bytes: &[u8]) -> bool
-    ensures { result ≡ carries Contents.Level bytes.now }
-{
-    if bytes.len() == 1 {
-        return bytes[0] <= 1;
-    }
-    false
+    matches!(code, 0xFE | 0xFD | 0xF7..=0xFA | 0xF5 | 0xF4)
 }
 
 // A whole number of tags, and no more than a count can tell.
 fn are_tags(bytes: &[u8]) -> bool
     ensures { result ≡ carries Contents.Tags bytes.now }
 {
-    if bytes.len() % TAG_SIZE == 0 {
-        return bytes.len() <= TAG_SIZE * MOST_TAGS;
-    }
-    false
+    bytes.len() % TAG_SIZE == 0 && bytes.len() <= TAG_SIZE * MOST_TAGS
 }
 
-// An answer can carry the bytes.
+// An answer can carry the bytes: of a level 00 for low, 01 for high.
 pub fn is_carried(contents: Contents, bytes: &[u8]) -> bool
     ensures { result ≡ carries contents bytes.now }
 {
     match contents {
         Contents::Bytes { count } => bytes.len() == count,
-        Contents::Level => is_level(bytes),
+        Contents::Level => matches!(bytes, [0x00 | 0x01]),
         Contents::Tags => are_tags(bytes),
     }
 }

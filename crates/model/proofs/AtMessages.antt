@@ -1,21 +1,20 @@
 -- Decisions on the demo board's messages at a few values, computed: the table, what answers carry, what is written, and what is read. The check takes
 -- files in the order of their names, this one first, so that of a wrong model it tells values.
 -- Assumes nothing.
+use Rattle.std.specs.Prelude.{Err, Ok, None}
 use Prim.Native.Nat.{ℕ}
 use mathlib.Core.Path.{◌≡◌, refl}
 use mathlib.Core.Bool.{true, false}
 use mathlib.Core.List.{[], ◌∷◌, map}
 use lib.ListN.{take, replicate}
 use Rattle.model.specs.declared.Refusal.TheVariants.{Invalid}
-use Rattle.model.specs.declared.Written.{Written}
 use Rattle.model.specs.declared.Message.{Message}
 use Rattle.model.specs.declared.Message.TheVariants.{Idn, Inventory}
 use Rattle.model.specs.declared.Contents.TheVariants.{Level, Tags}
-use Rattle.model.specs.declared.CommandRead.{CommandRead}
-use Rattle.model.specs.declared.AnswerRead.{AnswerRead}
-use Rattle.model.specs.declared.AnswerRead.TheVariants.{Carries, BoardError, ChipError}
 use Rattle.model.specs.Frames.{part}
 use Rattle.model.specs.Messages.{row, messages, family_byte, is_board_error, carries, answering, write_answer, write_error, read_message, read_answer}
+use Rattle.model.specs.declared.AnswerError.TheVariants.{BoardError, ChipError}
+use Rattle.model.specs.declared.AnswerError.{AnswerError}
 
 -- ---- the table
 
@@ -52,7 +51,7 @@ counted = refl
 -- ---- what is written
 
 -- 29 tags are told before an output that is too short
-pub ordered : (write_answer Inventory (replicate 261 0xE0) []).answer ≡ Written.Refused Invalid
+pub ordered : (write_answer Inventory (replicate 261 0xE0) []).answer ≡ Err Invalid
 ordered = refl
 
 -- output past the message keeps what it held
@@ -63,18 +62,18 @@ kept = refl
 
 -- another family, a byte left over, one missing, and a code of another command
 pub no_commands : map read_message ((0x01 ∷ 0xA2 ∷ 0x00 ∷ []) ∷ (0x02 ∷ 0xA2 ∷ 0x00 ∷ 0x00 ∷ []) ∷ (0x02 ∷ 0xA1 ∷ 0x01 ∷ []) ∷ (0x02 ∷ 0xA0 ∷ 0x01 ∷ 0x26 ∷ []) ∷ [])
-    ≡ CommandRead.Malformed ∷ CommandRead.Malformed ∷ CommandRead.Malformed ∷ CommandRead.Malformed ∷ []
+    ≡ None ∷ None ∷ None ∷ None ∷ []
 no_commands = refl
 
 -- one tag, with a count of nine, and with a byte left over
 pub no_inventories : map (read_answer Inventory) ((0x80 ∷ 0x09 ∷ 0x01 ∷ replicate 9 0xE0) ∷ (0x80 ∷ 0x0A ∷ 0x01 ∷ replicate 10 0xE0) ∷ (0x80 ∷ 0x0A ∷ 0x01 ∷ replicate 9 0xE0) ∷ [])
-    ≡ AnswerRead.Malformed ∷ AnswerRead.Malformed ∷ Carries (part 3 9) ∷ []
+    ≡ Err AnswerError.Malformed ∷ Err AnswerError.Malformed ∷ Ok (part 3 9) ∷ []
 no_inventories = refl
 
 -- the chip's name, and with a byte left over
-pub names : map (read_answer Idn) ((0x00 ∷ 0x0F ∷ replicate 15 0x4E) ∷ (0x00 ∷ 0x0F ∷ replicate 16 0x4E) ∷ []) ≡ Carries (part 2 15) ∷ AnswerRead.Malformed ∷ []
+pub names : map (read_answer Idn) ((0x00 ∷ 0x0F ∷ replicate 15 0x4E) ∷ (0x00 ∷ 0x0F ∷ replicate 16 0x4E) ∷ []) ≡ Ok (part 2 15) ∷ Err AnswerError.Malformed ∷ []
 names = refl
 
 -- its error, and errors of the MCU's, with data and without
-pub failures : map (read_answer Idn) ((0x8D ∷ 0x00 ∷ []) ∷ (0xFD ∷ 0x01 ∷ 0x00 ∷ []) ∷ (0xFD ∷ 0x00 ∷ []) ∷ []) ≡ ChipError 0x8D ∷ AnswerRead.Malformed ∷ BoardError 0xFD ∷ []
+pub failures : map (read_answer Idn) ((0x8D ∷ 0x00 ∷ []) ∷ (0xFD ∷ 0x01 ∷ 0x00 ∷ []) ∷ (0xFD ∷ 0x00 ∷ []) ∷ []) ≡ Err (ChipError 0x8D) ∷ Err AnswerError.Malformed ∷ Err (BoardError 0xFD) ∷ []
 failures = refl

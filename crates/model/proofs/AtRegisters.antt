@@ -1,6 +1,7 @@
 -- Decisions on registers at values, computed: each byte of RdReg and WrReg, the replies, the order of checks, and the state after.
 -- The check takes files in the order of their names, this one among the first, so that of a wrong model it tells values.
 -- Assumes nothing.
+use Rattle.std.specs.Prelude.{None}
 use Prim.Native.Nat.{ℕ, ◌*◌}
 use mathlib.Core.Path.{◌≡◌, refl}
 use mathlib.Core.List.{List, [], ◌∷◌, map}
@@ -12,7 +13,6 @@ use Rattle.model.specs.declared.End.TheVariants.{Good, Error, Malformed}
 use Rattle.model.specs.declared.Verdict.{Verdict}
 use Rattle.model.specs.declared.Verdict.TheVariants.{More, Ended}
 use Rattle.model.specs.declared.Place.TheVariants.{Piece}
-use Rattle.model.specs.declared.Calibration.TheVariants.{Off}
 use Rattle.model.specs.declared.State.{State}
 use Rattle.model.specs.declared.State.TheVariants.{PowerUp, Ready, Selected, Waiting, Lost}
 use Rattle.model.specs.declared.Answer.{Answer}
@@ -100,7 +100,7 @@ to_write = refl
 
 abbrev answers : Command → List ℕ → List Answer
 answers c out =
-    map (λ (state : State). (step (made Spi state Off) (request c out)).answer.answer)
+    map (λ (state : State). (step (made Spi state None) (request c out)).answer.answer)
     (PowerUp ∷ Ready ∷ Selected 3 ∷ Waiting (begun (idled 0x03)) 0 ∷ Lost ∷ [])
 
 abbrev buffer : List ℕ
@@ -122,7 +122,7 @@ read_order = refl
 -- ---- the state after a reply, where protocol 3 was selected and where none was
 
 abbrev after : Command → ℕ → List ℕ → State
-after c selected xs = (step (made Spi (Waiting (begun (awaited_of c)) selected) Off) (feed xs buffer)).answer.session.state
+after c selected xs = (step (made Spi (Waiting (begun (awaited_of c)) selected) None) (feed xs buffer)).answer.session.state
 
 -- as it was, after a good reply and an error alike
 pub kept_by_read : after (rd_reg 0x69) 3 (0x00 ∷ 0x01 ∷ 0x5F ∷ []) ∷ after (rd_reg 0x69) 3 (0x82 ∷ 0x00 ∷ []) ∷ after (rd_reg 0x69) 0 (0x00 ∷ 0x01 ∷ 0x5F ∷ []) ∷ []
@@ -134,5 +134,5 @@ pub kept_by_write : after (wr_reg (0x68 ∷ 0x00 ∷ 0x01 ∷ [])) 3 (0x00 ∷ 0
 kept_by_write = refl
 
 -- the register's value is handed out of the piece
-pub handed : (step (made Spi (Waiting (begun (awaited_of (rd_reg 0x69))) 3) Off) (feed (0x00 ∷ 0x01 ∷ 0x5F ∷ []) buffer)).answer.place ≡ Piece 2 1
+pub handed : (step (made Spi (Waiting (begun (awaited_of (rd_reg 0x69))) 3) None) (feed (0x00 ∷ 0x01 ∷ 0x5F ∷ []) buffer)).answer.place ≡ Piece 2 1
 handed = refl

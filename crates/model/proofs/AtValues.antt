@@ -2,6 +2,7 @@
 -- what a piece does to a session, calibration and the guard band. The check takes files in the order of their names, this one first, so that of a
 -- wrong model it tells values.
 -- Assumes nothing.
+use Rattle.std.specs.Prelude.{Err, Ok, Option, None, Some}
 use Prim.Native.Nat.{ℕ}
 use mathlib.Core.Path.{◌≡◌, refl}
 use mathlib.Core.List.{List, [], ◌∷◌, map}
@@ -9,8 +10,6 @@ use lib.ListN.{take, replicate}
 use Rattle.model.specs.declared.Interface.TheVariants.{Spi}
 use Rattle.model.specs.declared.Refusal.TheVariants.{Short, Invalid, Unready, Busy, Malformed, Unawaited, ChipError, LowestTimeout, HighestTag, NoLevel, CalibrationError}
 use Rattle.model.specs.declared.Kind.{Kind}
-use Rattle.model.specs.declared.Reading.{Reading}
-use Rattle.model.specs.declared.Reading.TheVariants.{Taken}
 use Rattle.model.specs.declared.Awaited.{Awaited}
 use Rattle.model.specs.declared.Phase.TheVariants.{Counting, Data}
 use Rattle.model.specs.declared.Wake.TheVariants.{Timeout, Tag, IrqIn, SpiSs}
@@ -21,9 +20,7 @@ use Rattle.model.specs.declared.Place.{Place}
 use Rattle.model.specs.declared.Place.TheVariants.{Nowhere, Piece}
 use Rattle.model.specs.declared.Plan.{Plan}
 use Rattle.model.specs.declared.Calibration.{Calibration}
-use Rattle.model.specs.declared.Calibration.TheVariants.{Off, On}
 use Rattle.model.specs.declared.Turn.TheVariants.{Goes, Names, Fails}
-use Rattle.model.specs.declared.Guard.TheVariants.{Band, NoBand}
 use Rattle.model.specs.declared.State.{State}
 use Rattle.model.specs.declared.State.TheVariants.{PowerUp, Ready, Selected, Waiting, Lost}
 use Rattle.model.specs.declared.Session.{Session}
@@ -34,7 +31,7 @@ use Rattle.words.specs.Contract.{Ran}
 use Rattle.model.specs.Frames.{idle_data, prescaler, row, kinds, frame, idn, protocol_select, send_recv, Transfer, part, write, read_command}
 use Rattle.model.specs.Replies.{idled, reply, at, begun}
 use Rattle.model.specs.Times.{t_l, t_ref, t_inactive, t_to}
-use Rattle.model.specs.Calibration.{settings_at, search, up, heard, band}
+use Rattle.model.specs.Calibration.{settings_at, search, up, heard, band, searching, band_of}
 use Rattle.model.specs.Session.{made, Call, pulse, request, reset, poll, read, calibrate, next, feed, step}
 
 -- ---- frames
@@ -53,7 +50,7 @@ prescalers = refl
 
 -- a SendRecv is taken; one with a byte behind it, protocol 5 and a protocol with no parameter are refused
 pub readings : map read_command ((0x04 ∷ 0x01 ∷ 0x26 ∷ []) ∷ (0x04 ∷ 0x00 ∷ 0x26 ∷ []) ∷ (0x02 ∷ 0x02 ∷ 0x05 ∷ 0x00 ∷ []) ∷ (0x02 ∷ 0x01 ∷ 0x01 ∷ []) ∷ [])
-    ≡ Taken (record { kind = Kind.SendRecv; payload = part 2 1 }) ∷ Reading.Refused Invalid ∷ Reading.Refused Invalid ∷ Reading.Refused Invalid ∷ []
+    ≡ Ok (record { kind = Kind.SendRecv; payload = part 2 1 }) ∷ Err Invalid ∷ Err Invalid ∷ Err Invalid ∷ []
 readings = refl
 
 -- an output too short for a poll keeps what it held
@@ -102,24 +99,24 @@ prescaled p =
     }
 
 -- a calibration, with so many commands given out and a level
-abbrev running : ℕ → ℕ → Calibration
-running commands level = On (prescaled 0) (search commands level)
+abbrev running : ℕ → ℕ → Option Calibration
+running commands level = searching (prescaled 0) (search commands level)
 
 -- Power-up, Ready, Selected with protocols 1 and 2, Waiting, Lost
-abbrev sessions : Calibration → List Session
+abbrev sessions : Option Calibration → List Session
 sessions c =
     made Spi PowerUp c ∷ made Spi Ready c ∷ made Spi (Selected 1) c ∷ made Spi (Selected 2) c ∷
     made Spi (Waiting (begun (idled 0x03)) 0) c ∷ made Spi Lost c ∷ []
 
-abbrev answers : Calibration → Call → List Answer
+abbrev answers : Option Calibration → Call → List Answer
 answers c call = map (λ (s : Session). (step s call).answer.answer) (sessions c)
 
 -- requests are taken in Ready and Selected
-pub requests : answers Off (request idn buffer) ≡ Refused Unready ∷ Sent 3 ∷ Sent 3 ∷ Sent 3 ∷ Refused Busy ∷ Refused Unready ∷ []
+pub requests : answers None (request idn buffer) ≡ Refused Unready ∷ Sent 3 ∷ Sent 3 ∷ Sent 3 ∷ Refused Busy ∷ Refused Unready ∷ []
 requests = refl
 
 -- SendRecv only in Selected, and with n = 0 only where that is protocol 1
-pub exchanges : answers Off (request (send_recv []) buffer) ≡ Refused Unready ∷ Refused Unready ∷ Sent 3 ∷ Refused Invalid ∷ Refused Busy ∷ Refused Unready ∷ []
+pub exchanges : answers None (request (send_recv []) buffer) ≡ Refused Unready ∷ Refused Unready ∷ Sent 3 ∷ Refused Invalid ∷ Refused Busy ∷ Refused Unready ∷ []
 exchanges = refl
 
 -- no request while a calibration runs
@@ -127,7 +124,7 @@ pub requests_then : answers (running 1 0x00) (request idn buffer) ≡ Refused Bu
 requests_then = refl
 
 -- a calibration starts where a request is taken
-pub starts : answers Off (calibrate (prescaled 0) buffer) ≡ Refused Unready ∷ Sent 17 ∷ Sent 17 ∷ Sent 17 ∷ Refused Busy ∷ Refused Unready ∷ []
+pub starts : answers None (calibrate (prescaled 0) buffer) ≡ Refused Unready ∷ Sent 17 ∷ Sent 17 ∷ Sent 17 ∷ Refused Busy ∷ Refused Unready ∷ []
 starts = refl
 
 -- its next command is due once the answer is in
@@ -135,20 +132,20 @@ pub nexts : answers (running 1 0x00) (next buffer) ≡ Refused Busy ∷ Sent 17 
 nexts = refl
 
 -- a poll is taken in every state
-pub polls : answers Off (poll buffer) ≡ Sent 2 ∷ Sent 2 ∷ Sent 2 ∷ Sent 2 ∷ Sent 2 ∷ Sent 2 ∷ []
+pub polls : answers None (poll buffer) ≡ Sent 2 ∷ Sent 2 ∷ Sent 2 ∷ Sent 2 ∷ Sent 2 ∷ Sent 2 ∷ []
 polls = refl
 
 -- a piece is read where a reply is awaited
-pub pieces : answers Off (feed (0x00 ∷ 0x01 ∷ 0x02 ∷ []) buffer) ≡ Refused Unawaited ∷ Refused Unawaited ∷ Refused Unawaited ∷ Refused Unawaited ∷ Woken Tag ∷ Refused Unawaited ∷ []
+pub pieces : answers None (feed (0x00 ∷ 0x01 ∷ 0x02 ∷ []) buffer) ≡ Refused Unawaited ∷ Refused Unawaited ∷ Refused Unawaited ∷ Refused Unawaited ∷ Woken Tag ∷ Refused Unawaited ∷ []
 pieces = refl
 
 -- ---- the order of checks, where more than one refusal applies
 
 -- 4, 3, 2, 1
-pub request_order : answers Off (request (send_recv []) []) ≡ Refused Unready ∷ Refused Unready ∷ Refused Short ∷ Refused Invalid ∷ Refused Busy ∷ Refused Unready ∷ []
+pub request_order : answers None (request (send_recv []) []) ≡ Refused Unready ∷ Refused Unready ∷ Refused Short ∷ Refused Invalid ∷ Refused Busy ∷ Refused Unready ∷ []
 request_order = refl
 
-pub start_order : answers Off (calibrate (prescaled 4) []) ≡ Refused Unready ∷ Refused Invalid ∷ Refused Invalid ∷ Refused Invalid ∷ Refused Busy ∷ Refused Unready ∷ []
+pub start_order : answers None (calibrate (prescaled 4) []) ≡ Refused Unready ∷ Refused Invalid ∷ Refused Invalid ∷ Refused Invalid ∷ Refused Busy ∷ Refused Unready ∷ []
 start_order = refl
 
 -- 4, 1
@@ -156,33 +153,33 @@ pub next_order : answers (running 1 0x00) (next []) ≡ Refused Busy ∷ Refused
 next_order = refl
 
 -- 2, 1
-pub read_order : answers Off (read 0 []) ≡ Refused Invalid ∷ Refused Invalid ∷ Refused Invalid ∷ Refused Invalid ∷ Refused Invalid ∷ Refused Invalid ∷ []
+pub read_order : answers None (read 0 []) ≡ Refused Invalid ∷ Refused Invalid ∷ Refused Invalid ∷ Refused Invalid ∷ Refused Invalid ∷ Refused Invalid ∷ []
 read_order = refl
 
 -- 6, room
-pub piece_order : answers Off (feed (0x00 ∷ []) []) ≡ Refused Unawaited ∷ Refused Unawaited ∷ Refused Unawaited ∷ Refused Unawaited ∷ Refused Short ∷ Refused Unawaited ∷ []
+pub piece_order : answers None (feed (0x00 ∷ []) []) ≡ Refused Unawaited ∷ Refused Unawaited ∷ Refused Unawaited ∷ Refused Unawaited ∷ Refused Short ∷ Refused Unawaited ∷ []
 piece_order = refl
 
 -- ---- what a piece does to a session: the state, a calibration or none, the answer, the bytes consumed, and where the data are
 
-abbrev left : State → Calibration → Answer → ℕ → Place → Outcome
+abbrev left : State → Option Calibration → Answer → ℕ → Place → Outcome
 left state c answer used place = record { session = made Spi state c; answer = answer; used = used; place = place }
 
-abbrev fed : Awaited → ℕ → Calibration → List ℕ → Ran Outcome
+abbrev fed : Awaited → ℕ → Option Calibration → List ℕ → Ran Outcome
 fed a selected c xs = step (made Spi (Waiting (begun a) selected) c) (feed xs buffer)
 
 -- 00 01 08, malformed at its third byte (5), is consumed through it and writes nothing
-pub malformed : (fed (idled 0x03) 0 Off (0x00 ∷ 0x01 ∷ 0x08 ∷ [])).answer.used ∷ take 1 (fed (idled 0x03) 0 Off (0x00 ∷ 0x01 ∷ 0x08 ∷ [])).bytes ≡ 3 ∷ 0x00 ∷ []
+pub malformed : (fed (idled 0x03) 0 None (0x00 ∷ 0x01 ∷ 0x08 ∷ [])).answer.used ∷ take 1 (fed (idled 0x03) 0 None (0x00 ∷ 0x01 ∷ 0x08 ∷ [])).bytes ≡ 3 ∷ 0x00 ∷ []
 malformed = refl
 
 -- SendRecv with protocol 1 selected: 80 01 26 is good, 80 alone goes on, and 8D 00 is the error 8D (7)
-pub exchanged : map (λ xs. (fed exchanging 1 Off xs).answer) ((0x80 ∷ 0x01 ∷ 0x26 ∷ []) ∷ (0x80 ∷ []) ∷ (0x8D ∷ 0x00 ∷ []) ∷ [])
-    ≡ left (Selected 1) Off Good 3 (Piece 2 1) ∷ left (Waiting (at exchanging (Counting 0x80)) 1) Off More 1 Nowhere
-    ∷ left (Selected 1) Off (Refused (ChipError 0x8D)) 2 Nowhere ∷ []
+pub exchanged : map (λ xs. (fed exchanging 1 None xs).answer) ((0x80 ∷ 0x01 ∷ 0x26 ∷ []) ∷ (0x80 ∷ []) ∷ (0x8D ∷ 0x00 ∷ []) ∷ [])
+    ≡ left (Selected 1) None Good 3 (Piece 2 1) ∷ left (Waiting (at exchanging (Counting 0x80)) 1) None More 1 Nowhere
+    ∷ left (Selected 1) None (Refused (ChipError 0x8D)) 2 Nowhere ∷ []
 exchanged = refl
 
 -- in the room the second of three data bytes stands behind the first
-pub behind : take 2 (step (made Spi (Waiting (at exchanging (Data 1 3)) 1) Off) (feed (0xBB ∷ []) (0xAA ∷ replicate 527 0x00))).bytes ≡ 0xAA ∷ 0xBB ∷ []
+pub behind : take 2 (step (made Spi (Waiting (at exchanging (Data 1 3)) 1) None) (feed (0xBB ∷ []) (0xAA ∷ replicate 527 0x00))).bytes ≡ 0xAA ∷ 0xBB ∷ []
 behind = refl
 
 -- ---- calibration
@@ -198,23 +195,23 @@ unfolding t_l t_ref t_inactive t_to
 ticked = refl
 
 -- the reply to the first command is awaited, by its WU source
-pub started : (step (made Spi (Selected 1) Off) (calibrate (prescaled 0) buffer)).answer.session ≡ made Spi (Waiting (begun (idled 0x03)) 1) (running 1 0x00)
+pub started : (step (made Spi (Selected 1) None) (calibrate (prescaled 0) buffer)).answer.session ≡ made Spi (Waiting (begun (idled 0x03)) 1) (running 1 0x00)
 started = refl
 
 -- the first command: a tag goes on to FC, a timeout ends it (8)
 pub first_trial : map (λ xs. (fed (idled 0x03) 0 (running 1 0x00) xs).answer) ((0x00 ∷ 0x01 ∷ 0x02 ∷ []) ∷ (0x00 ∷ 0x01 ∷ 0x01 ∷ []) ∷ [])
-    ≡ left Ready (running 1 0xFC) (Woken Tag) 3 (Piece 2 1) ∷ left Ready Off (Refused (LowestTimeout 1)) 3 (Piece 2 1) ∷ []
+    ≡ left Ready (running 1 0xFC) (Woken Tag) 3 (Piece 2 1) ∷ left Ready None (Refused (LowestTimeout 1)) 3 (Piece 2 1) ∷ []
 first_trial = refl
 
 -- the second: a tag (9), the error 8E (12) and a malformed reply (5) end it
 pub second_trial : map (λ xs. (fed (idled 0x03) 0 (running 2 0xFC) xs).answer) ((0x00 ∷ 0x01 ∷ 0x02 ∷ []) ∷ (0x8E ∷ 0x00 ∷ []) ∷ (0x00 ∷ 0x02 ∷ []) ∷ [])
-    ≡ left Ready Off (Refused (HighestTag 2)) 3 (Piece 2 1) ∷ left Ready Off (Refused (CalibrationError 0x8E 2)) 2 Nowhere
-    ∷ left Lost Off (Refused Malformed) 2 Nowhere ∷ []
+    ≡ left Ready None (Refused (HighestTag 2)) 3 (Piece 2 1) ∷ left Ready None (Refused (CalibrationError 0x8E 2)) 2 Nowhere
+    ∷ left Lost None (Refused Malformed) 2 Nowhere ∷ []
 second_trial = refl
 
 -- once the answer is in: a pulse changes nothing, a reset drops the calibration, the next command is the second; the interface stays
 pub between : map (λ call. (step (made Spi Ready (running 1 0xFC)) call).answer.session) (pulse ∷ reset buffer ∷ next buffer ∷ [])
-    ≡ made Spi Ready (running 1 0xFC) ∷ made Spi PowerUp Off ∷ made Spi (Waiting (begun (idled 0x03)) 0) (running 2 0xFC) ∷ []
+    ≡ made Spi Ready (running 1 0xFC) ∷ made Spi PowerUp None ∷ made Spi (Waiting (begun (idled 0x03)) 0) (running 2 0xFC) ∷ []
 between = refl
 
 -- up after a tag; FC must give timeout; after the eighth answer the reference is the last level
@@ -232,5 +229,5 @@ pub ups : map (λ (level : ℕ). up level 0x04) (0xFB ∷ 0xFC ∷ []) ≡ 0xFF 
 ups = refl
 
 -- low = reference - 8, high = reference + 8; refused below 08, above F4, or where the reference is no multiple of 4
-pub bands : map band (0x04 ∷ 0x08 ∷ 0x0A ∷ 0xF4 ∷ 0xF8 ∷ []) ≡ NoBand ∷ Band 0x00 0x10 ∷ NoBand ∷ Band 0xEC 0xFC ∷ NoBand ∷ []
+pub bands : map band (0x04 ∷ 0x08 ∷ 0x0A ∷ 0xF4 ∷ 0xF8 ∷ []) ≡ None ∷ Some (band_of 0x00 0x10) ∷ None ∷ Some (band_of 0xEC 0xFC) ∷ None ∷ []
 bands = refl

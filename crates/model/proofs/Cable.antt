@@ -1,6 +1,7 @@
 -- In every history the state stands for the bytes fed since the newest command: where its reply is awaited they lead to the progress, and
 -- otherwise to the reply's end; and as many are consumed as the table reads.
 -- Assumes nothing.
+use Rattle.std.specs.Prelude.{Option, Some, None}
 use Prim.Native.Nat.{ℕ, ◌+◌}
 use native.Mathlib.Omega.{arith}
 use mathlib.Core.Path.{◌≡◌, refl, sym, ap, ap₂, subst, ◌∙◌}
@@ -27,7 +28,6 @@ use Rattle.model.specs.declared.Place.{Place}
 use Rattle.model.specs.declared.Fed.{Fed}
 use Rattle.model.specs.declared.Plan.{Plan}
 use Rattle.model.specs.declared.Calibration.{Calibration}
-use Rattle.model.specs.declared.Calibration.TheVariants.{Off, On}
 use Rattle.model.specs.declared.Turn.{Turn}
 use Rattle.model.specs.declared.Turn.TheVariants.{Goes, Names, Fails}
 use Rattle.model.specs.declared.State.{State}
@@ -157,9 +157,9 @@ closed_turned (Goes found) plan w s k place = record { nothing_awaited = refl; c
 closed_turned (Names r n) plan w s k place = record { nothing_awaited = refl; consumed = refl }
 closed_turned (Fails j) plan w s k place = record { nothing_awaited = refl; consumed = refl }
 
-closed_woken : (c : Calibration) (w : Wake) (s : Session) (k : ℕ) (place : Place) → Closed k (woken c w s k place)
-closed_woken Off w s k place = record { nothing_awaited = refl; consumed = refl }
-closed_woken (On plan found) w s k place = closed_turned (heard found w) plan w s k place
+closed_woken : (c : Option Calibration) (w : Wake) (s : Session) (k : ℕ) (place : Place) → Closed k (woken c w s k place)
+closed_woken None w s k place = record { nothing_awaited = refl; consumed = refl }
+closed_woken (Some c) w s k place = closed_turned (heard c.search w) c.plan w s k place
 
 -- where a reply is over, none is awaited
 pub closed : (e : End) (s : Session) (a : Awaited) (selected k : ℕ) (place : Place) → Closed k (ended_by e s a selected k place)
@@ -228,9 +228,9 @@ keep_read s p selected x xs room v =
 
 -- ---- any call
 
-keep_next : (c : Calibration) (s : Session) (es : List Exchange) (out : List ℕ) → Passes (continuing c s.state ++ writing_next c s out) → Keeps es (next out) (continues c s out)
-keep_next Off s es out p = absurd (true≢false p.0)
-keep_next (On plan found) s es out p = given_out s.interface plan found.level _ _ (protocol_of s.state) refl refl refl
+keep_next : (c : Option Calibration) (s : Session) (es : List Exchange) (out : List ℕ) → Passes (continuing c s.state ++ writing_next c s out) → Keeps es (next out) (continues c s out)
+keep_next None s es out p = absurd (true≢false p.0)
+keep_next (Some c) s es out p = given_out s.interface c.plan c.search.level _ _ (protocol_of s.state) refl refl refl
 
 keep_piece : (s : Session) (p : Progress) (selected : ℕ) (es : List Exchange) (xs room : List ℕ) → NowBy (some p selected) es
     → let o = (outcome_of s p selected xs room).answer in Now o.session.state (fed xs o.used es)

@@ -1,5 +1,6 @@
 -- What a call gives out that is not refused, and the session after it.
 -- Assumes nothing.
+use Rattle.std.specs.Prelude.{Option}
 use Prim.Native.Nat.{ℕ, ◌+◌}
 use native.Mathlib.Omega.{arith}
 use mathlib.Core.Path.{refl, sym, subst}
@@ -20,7 +21,7 @@ use Rattle.model.specs.Given.{GivesOut, trial, sent, tried, StartGives, NextGive
 use Rattle.model.proofs.Lives.{does_it}
 
 -- a command of a calibration, over either interface
-tests_so : (i : Interface) (state : State) (c : Calibration) (plan : Plan) (found : Search) (out : List ℕ)
+tests_so : (i : Interface) (state : State) (c : Option Calibration) (plan : Plan) (found : Search) (out : List ℕ)
     → GivesOut (sent i (trial plan found.level)) (tried (made i state c) plan found) out (tests (made i state c) plan found out)
 tests_so Spi state c plan found out = record { answer = refl; output = refl }
 tests_so Uart state c plan found out = record { answer = refl; output = refl }
@@ -37,11 +38,11 @@ continues_so s plan found out e p =
     let on : Search = record { commands = found.commands + 1; level = found.level } in
     let xs = sent s.interface (trial plan found.level) in
     done xs (tried s plan on) s out (next out) p
-    (subst (λ (c : Calibration). GivesOut xs (tried s plan on) out (continues c s out)) (sym e) (tests_so s.interface s.state s.calibration plan on out))
+    (subst (λ (c : Option Calibration). GivesOut xs (tried s plan on) out (continues c s out)) (sym e) (tests_so s.interface s.state s.calibration plan on out))
 
 -- ---- over SPI
 
-module _ (state : State) (c : Calibration) (out : List ℕ) where
+module _ (state : State) (c : Option Calibration) (out : List ℕ) where
   abbrev s : Session
   s = made Spi state c
 

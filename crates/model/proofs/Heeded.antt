@@ -1,5 +1,6 @@
 -- An answer is taken exactly by the call with which one came; and while a calibration runs, the newest command is its own.
 -- Assumes nothing.
+use Rattle.std.specs.Prelude.{Option, Some, None}
 use Prim.Native.Nat.{ℕ, suc, ◌≤◌}
 use native.Mathlib.Omega.{arith}
 use mathlib.Core.Path.{◌≡◌, sym, subst, ◌∙◌}
@@ -12,7 +13,6 @@ use Rattle.model.specs.declared.Answer.{Answer}
 use Rattle.model.specs.Refusals.{Report, silent, ended, report_of}
 use Rattle.model.specs.declared.Refusal.{Refusal}
 use Rattle.model.specs.declared.Calibration.{Calibration}
-use Rattle.model.specs.declared.Calibration.TheVariants.{Off, On}
 use Rattle.model.specs.declared.State.{State}
 use Rattle.model.specs.declared.State.TheVariants.{PowerUp, Ready, Selected, Waiting, Lost}
 use Rattle.model.specs.declared.Session.{Session}
@@ -25,17 +25,17 @@ use Rattle.model.specs.Session.{refuse, lent, is_waiting, is_running, continuing
 use Rattle.model.specs.History.{turn, Owner, requested, Passing, passing_by, Exchange, fed, exchanges_by, exchanges, Told, answers}
 use Rattle.model.specs.Promises.{HeededBy, Heeded, Heeds, Own}
 use Rattle.model.proofs.Ordering.{Quiet, unheard, ignored, quiet, by_step}
-use Rattle.model.proofs.Invariant.{Own as Owned, Live, not_free, One, None, RefusedBy, SaysBy, keeps}
+use Rattle.model.proofs.Invariant.{Own as Owned, Live, not_free, OneMore, NoneMore, RefusedBy, SaysBy, keeps}
 use Rattle.model.proofs.Theorems.{inv_of}
 
 -- at most one answer came, and one exactly where P
 abbrev Brings : Type 0 → List Told → List Told → Type 0
-Brings P ts old = (length ts ≤ suc (length old)) × (One ts old ↔ P)
+Brings P ts old = (length ts ≤ suc (length old)) × (OneMore ts old ↔ P)
 
-never : (P : Type 0) (ts old : List Told) → None ts old → (P → ⊥) → Brings P ts old
+never : (P : Type 0) (ts old : List Told) → NoneMore ts old → (P → ⊥) → Brings P ts old
 never P ts old x n = (omega arith, (λ one. absurd (omega (arith, one)), λ p. absurd (n p)))
 
-once : (P : Type 0) (ts old : List Told) → One ts old → P → Brings P ts old
+once : (P : Type 0) (ts old : List Told) → OneMore ts old → P → Brings P ts old
 once P ts old x p = (omega arith, (λ _. p, λ _. x))
 
 brings_refused : (F : Told → Type 0) (running : Bool) (y : Report) (c : ℕ) (ts old : List Told) → RefusedBy F running y c ts old → Brings (HeededBy y) ts old
@@ -68,15 +68,15 @@ mine_fed : (xs : List ℕ) (k : ℕ) (es : List Exchange) → Mine es → Mine (
 mine_fed xs k [] m = m
 mine_fed xs k (x ∷ es) m = m
 
-mine_in : (c : Calibration) (state : State) (es : List Exchange) → is_running c ≡ true → Live c state es → Mine es
-mine_in Off state es e l = absurd (true≢false (sym e))
-mine_in (On plan found) PowerUp es e l = absurd l
-mine_in (On plan found) Ready [] e l = tt
-mine_in (On plan found) Ready (x ∷ es) e l = l.0
-mine_in (On plan found) (Selected protocol) es e l = absurd l
-mine_in (On plan found) (Waiting p selected) [] e l = tt
-mine_in (On plan found) (Waiting p selected) (x ∷ es) e l = l.own
-mine_in (On plan found) Lost es e l = absurd l
+mine_in : (c : Option Calibration) (state : State) (es : List Exchange) → is_running c ≡ true → Live c state es → Mine es
+mine_in None state es e l = absurd (true≢false (sym e))
+mine_in (Some c) PowerUp es e l = absurd l
+mine_in (Some c) Ready [] e l = tt
+mine_in (Some c) Ready (x ∷ es) e l = l.0
+mine_in (Some c) (Selected protocol) es e l = absurd l
+mine_in (Some c) (Waiting p selected) [] e l = tt
+mine_in (Some c) (Waiting p selected) (x ∷ es) e l = l.own
+mine_in (Some c) Lost es e l = absurd l
 
 -- after a call with this outcome
 abbrev After : List Exchange → Call → Ran Outcome → Type 0
@@ -86,9 +86,9 @@ mine_refused : (s : Session) (es : List Exchange) → Mine es → (c : Call) (k 
 mine_refused s es m c k (unheard d u) = subst (λ (p : Passing). Mine (exchanges_by p es)) (sym (u k (lent d))) m
 mine_refused s es m c k (ignored x xs room) = mine_fed (pick (ltb (length room) least_room) [] (x ∷ xs)) 0 es m
 
-mine_next : (c : Calibration) (s : Session) (es : List Exchange) (out : List ℕ) → Mine es → Passes (continuing c s.state ++ writing_next c s out) → After es (next out) (continues c s out)
-mine_next Off s es out m p = absurd (true≢false p.0)
-mine_next (On plan found) s es out m p = tt
+mine_next : (c : Option Calibration) (s : Session) (es : List Exchange) (out : List ℕ) → Mine es → Passes (continuing c s.state ++ writing_next c s out) → After es (next out) (continues c s out)
+mine_next None s es out m p = absurd (true≢false p.0)
+mine_next (Some c) s es out m p = tt
 
 mine_done : (s : Session) (es : List Exchange) → is_running s.calibration ≡ true → Mine es → (c : Call) → Passes (checks s c) → After es c (does s c)
 mine_done s es on m (power_on i) p = tt

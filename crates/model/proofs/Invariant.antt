@@ -1,5 +1,6 @@
 -- What holds of a calibration after any calls since a power-on, and that one call more keeps it.
 -- Assumes nothing.
+use Rattle.std.specs.Prelude.{Option, Some, None}
 use Prim.Native.Nat.{ℕ, zero, suc, ◌+◌, ◌≤◌, ◌<◌, ◌%◌}
 use native.Mathlib.Omega.{arith}
 use mathlib.Core.Path.{◌≡◌, refl, sym, ap, ap₂, subst, ◌∙◌}
@@ -28,7 +29,6 @@ use Rattle.model.specs.declared.Fed.{Fed}
 use Rattle.model.specs.declared.Plan.{Plan}
 use Rattle.model.specs.declared.Search.{Search}
 use Rattle.model.specs.declared.Calibration.{Calibration}
-use Rattle.model.specs.declared.Calibration.TheVariants.{Off, On}
 use Rattle.model.specs.declared.Turn.{Turn}
 use Rattle.model.specs.declared.Turn.TheVariants.{Goes, Names, Fails}
 use Rattle.model.specs.declared.State.{State}
@@ -41,7 +41,7 @@ use Rattle.words.specs.Contract.{Ran}
 use Rattle.model.specs.Refusals.{Report, silent, ended, number_of, values_of, report_of}
 use Rattle.model.specs.Frames.{idle, send, bytes}
 use Rattle.model.specs.Replies.{least_room, form_of, idled, reached, verdict_of, fed_by, fed_from}
-use Rattle.model.specs.Calibration.{settings_at, search, is_tag, tagged, timed_out}
+use Rattle.model.specs.Calibration.{settings_at, search, is_tag, tagged, timed_out, searching}
 use Rattle.model.specs.Checks.{Passes, mild}
 use Rattle.model.specs.Session.{made, into, pulsed, refuse, lent, is_waiting, is_running, is_due, after_good, after_error, turned, woken, ended_by, outcome_by, outcome_of, continuing, writing_next, continues, Awaits, none, some, is_some, awaits, takes, checks, does, Call, power_on, pulse, request, reset, poll, read, calibrate, next, feed, step}
 use Rattle.model.specs.History.{Event, Reached, event, turn, run, on, Owner, requested, first, later, Passing, source_in, Exchange, exchange, fed, exchanges_by, exchanges, own_by, trials, commands, level_of, Told, told, answer_by, verdict_in, answers_in, answers}
@@ -91,15 +91,15 @@ Free none es = Unit {0}
 Free (some p selected) [] = Unit {0}
 Free (some p selected) (x ∷ es) = x.owner ≡ requested
 
-abbrev pub Live : Calibration → State → List Exchange → Type 0
-Live Off state es = Free (awaits state) es
-Live (On plan found) PowerUp es = ⊥
-Live (On plan found) Ready [] = ⊥
-Live (On plan found) Ready (x ∷ es) = Own x.owner × Due found (length (trials (x ∷ es))) (answers_in (trials (x ∷ es)))
-Live (On plan found) (Selected protocol) es = ⊥
-Live (On plan found) (Waiting p selected) [] = ⊥
-Live (On plan found) (Waiting p selected) (x ∷ es) = Asked found x.owner x.awaited es
-Live (On plan found) Lost es = ⊥
+abbrev pub Live : Option Calibration → State → List Exchange → Type 0
+Live None state es = Free (awaits state) es
+Live (Some c) PowerUp es = ⊥
+Live (Some c) Ready [] = ⊥
+Live (Some c) Ready (x ∷ es) = Own x.owner × Due c.search (length (trials (x ∷ es))) (answers_in (trials (x ∷ es)))
+Live (Some c) (Selected protocol) es = ⊥
+Live (Some c) (Waiting p selected) [] = ⊥
+Live (Some c) (Waiting p selected) (x ∷ es) = Asked c.search x.owner x.awaited es
+Live (Some c) Lost es = ⊥
 
 -- a count that is reported, of the commands c and the answers ts
 abbrev pub Counted : ℕ → ℕ → List Told → Type 0
@@ -116,11 +116,11 @@ abbrev pub Unsteady : List Told → Type 0
 Unsteady ts = (f : ℕ → Bool) → Steady f → Agrees f ts → ⊥
 
 -- one answer more, or none
-abbrev pub One : List Told → List Told → Type 0
-One ts old = length ts ≡ suc (length old)
+abbrev pub OneMore : List Told → List Told → Type 0
+OneMore ts old = length ts ≡ suc (length old)
 
-abbrev pub None : List Told → List Told → Type 0
-None ts old = length ts ≤ length old
+abbrev pub NoneMore : List Told → List Told → Type 0
+NoneMore ts old = length ts ≤ length old
 
 -- the newest answer
 abbrev pub Newest : End → List Told → Type 0
@@ -133,17 +133,17 @@ Tops F (t ∷ ts) = F t
 
 -- what a refusal says of the commands c, the answers ts, and the answers before it
 abbrev pub RefusedBy : (Told → Type 0) → Bool → Report → ℕ → List Told → List Told → Type 0
-RefusedBy F running silent c ts old = None ts old
-RefusedBy F running (ended n) c ts old = (running ≡ true) × One ts old × Counted n c ts × Unsteady ts × Tops F ts
+RefusedBy F running silent c ts old = NoneMore ts old
+RefusedBy F running (ended n) c ts old = (running ≡ true) × OneMore ts old × Counted n c ts × Unsteady ts × Tops F ts
 
 -- and what an answer says, where a calibration ran before it or none did
 abbrev pub SaysBy : Bool → Answer → ℕ → List Told → List Told → Type 0
-SaysBy running Answer.Done c ts old = None ts old
-SaysBy running (Answer.Sent n) c ts old = None ts old
-SaysBy running Answer.More c ts old = None ts old
-SaysBy running Answer.Good c ts old = None ts old
-SaysBy running (Answer.Woken w) c ts old = ((running ≡ false) × None ts old) ⊎ ((running ≡ true) × One ts old × (c < 8) × Newest (Woken w) ts)
-SaysBy running (Answer.Reference r n) c ts old = (running ≡ true) × One ts old × Result r n c ts
+SaysBy running Answer.Done c ts old = NoneMore ts old
+SaysBy running (Answer.Sent n) c ts old = NoneMore ts old
+SaysBy running Answer.More c ts old = NoneMore ts old
+SaysBy running Answer.Good c ts old = NoneMore ts old
+SaysBy running (Answer.Woken w) c ts old = ((running ≡ false) × NoneMore ts old) ⊎ ((running ≡ true) × OneMore ts old × (c < 8) × Newest (Woken w) ts)
+SaysBy running (Answer.Reference r n) c ts old = (running ≡ true) × OneMore ts old × Result r n c ts
 SaysBy running (Answer.Refused k) c ts old = RefusedBy (Fits (number_of k) (values_of k)) running (report_of k) c ts old
 
 abbrev pub Says : List Event → Type 0
@@ -280,7 +280,7 @@ fitting (NoLevel n) ts t =
     subst (λ (m : ℕ). Tops (Fits 10 (m ∷ [])) ts) (sym (eqb→eq n 8 (and_l (eqb n 8) _ t))) (topmost is_timeout timeout is_timeout_lem _ 0x00 eighth ts (and_r (eqb n 8) _ t))
 fitting (CalibrationError code n) ts t = absurd t
 
-refusal : (F : Told → Type 0) (x : Report) (c : ℕ) (ts old : List Told) → One ts old → length ts ≡ c → T (counted x ts) → Tops F ts → RefusedBy F true x c ts old
+refusal : (F : Told → Type 0) (x : Report) (c : ℕ) (ts old : List Told) → OneMore ts old → length ts ≡ c → T (counted x ts) → Tops F ts → RefusedBy F true x c ts old
 refusal F silent c ts old one e t fit = absurd t
 refusal F (ended n) c ts old one e t fit =
     let long : n ≡ length ts = eqb→eq n (length ts) (and_l (eqb n (length ts)) (strange ts) t) in
@@ -363,7 +363,7 @@ put : {running : Bool} (h : List Event) (c : Call) (m : Ran Outcome) (es : List 
 put {running} h c m es e k = subst (λ (es' : List Exchange). Holds running m.answer es' (answers h)) (sym e) k
 
 -- a mild refusal says that no answer came
-mild_says : (running : Bool) (k : Refusal) (c : ℕ) (ts old : List Told) → mild k ≡ true → None ts old → RefusedBy (Fits (number_of k) (values_of k)) running (report_of k) c ts old
+mild_says : (running : Bool) (k : Refusal) (c : ℕ) (ts old : List Told) → mild k ≡ true → NoneMore ts old → RefusedBy (Fits (number_of k) (values_of k)) running (report_of k) c ts old
 mild_says running k c ts old m n = subst (λ (x : Report). RefusedBy (Fits (number_of k) (values_of k)) running x c ts old) (sym (mild_silent k m)) n
 
 unawaited : (w : Awaits) (es : List Exchange) → is_some w ≡ false → NowBy w es → NowBy none es
@@ -374,18 +374,18 @@ free_fed : (w : Awaits) (es es' : List Exchange) → is_some w ≡ false → Fre
 free_fed none es es' f l = tt
 free_fed (some p selected) es es' f l = absurd (true≢false f)
 
-live_fed : (c : Calibration) (state : State) (xs : List ℕ) (es : List Exchange) → is_waiting state ≡ false → Now state es → Live c state es → Live c state (fed xs 0 es)
-live_fed Off state xs es f v l = free_fed (awaits state) es (fed xs 0 es) f l
-live_fed (On plan found) PowerUp xs es f v l = absurd l
-live_fed (On plan found) Ready xs [] f v l = absurd l
-live_fed (On plan found) Ready xs (x ∷ es) f v (w, d) = (
+live_fed : (c : Option Calibration) (state : State) (xs : List ℕ) (es : List Exchange) → is_waiting state ≡ false → Now state es → Live c state es → Live c state (fed xs 0 es)
+live_fed None state xs es f v l = free_fed (awaits state) es (fed xs 0 es) f l
+live_fed (Some c) PowerUp xs es f v l = absurd l
+live_fed (Some c) Ready xs [] f v l = absurd l
+live_fed (Some q) Ready xs (x ∷ es) f v (w, d) = (
   w,
-  subst (Due found (length (trials (fed xs 0 (x ∷ es))))) (sym (fed_answers xs 0 (x ∷ es) v))
-      (subst (λ (c : ℕ). Due found c (answers_in (trials (x ∷ es)))) (sym (fed_length xs 0 (x ∷ es))) d),
+  subst (Due q.search (length (trials (fed xs 0 (x ∷ es))))) (sym (fed_answers xs 0 (x ∷ es) v))
+      (subst (λ (c : ℕ). Due q.search c (answers_in (trials (x ∷ es)))) (sym (fed_length xs 0 (x ∷ es))) d),
 )
-live_fed (On plan found) (Selected protocol) xs es f v l = absurd l
-live_fed (On plan found) (Waiting p selected) xs es f v l = absurd (true≢false f)
-live_fed (On plan found) Lost xs es f v l = absurd l
+live_fed (Some c) (Selected protocol) xs es f v l = absurd l
+live_fed (Some c) (Waiting p selected) xs es f v l = absurd (true≢false f)
+live_fed (Some c) Lost xs es f v l = absurd l
 
 -- nothing changed
 unchanged : {running : Bool} (s : Session) (h : List Event) → Inv s h → (answer : Answer) (k : ℕ) (place : Place)
@@ -420,14 +420,14 @@ keep_refused s h v c k m g = go c g (quiet s c k g)
 
 -- the reply is a request's, and what it comes to is none of a calibration's
 off_ended : (e : End) (i : Interface) (state : State) (a : Awaited) (selected k : ℕ) (place : Place) (es : List Exchange) (old : List Told)
-    → ((w : Awaits) → Free w es) → length (trials es) ≤ 8 → None (answers_in (trials es)) old → Holds false (ended_by e (made i state Off) a selected k place) es old
+    → ((w : Awaits) → Free w es) → length (trials es) ≤ 8 → NoneMore (answers_in (trials es)) old → Holds false (ended_by e (made i state None) a selected k place) es old
 off_ended Good i state a selected k place es old free few n = record { few = few; live = free (awaits (after_good a selected)); says = n }
 off_ended (Woken w) i state a selected k place es old free few n = record { few = few; live = tt; says = inl (refl, n) }
 off_ended (Error code) i state a selected k place es old free few n = record { few = few; live = free (awaits (after_error a selected)); says = n }
 off_ended (Malformed at b) i state a selected k place es old free few n = record { few = few; live = tt; says = n }
 
 off_taken : (v : Verdict) (r : Fed) (i : Interface) (state : State) (a : Awaited) (selected : ℕ) (es : List Exchange) (old : List Told)
-    → ((w : Awaits) → Free w es) → length (trials es) ≤ 8 → None (answers_in (trials es)) old → Holds false (outcome_by v r (made i state Off) a selected) es old
+    → ((w : Awaits) → Free w es) → length (trials es) ≤ 8 → NoneMore (answers_in (trials es)) old → Holds false (outcome_by v r (made i state None) a selected) es old
 off_taken More r i state a selected es old free few n = record { few = few; live = free (some r.progress selected); says = n }
 off_taken (Ended e) r i state a selected es old free few n = off_ended e i state a selected r.used r.place es old free few n
 off_taken NoRoom r i state a selected es old free few n = record { few = few; live = free (awaits state); says = n }
@@ -441,11 +441,11 @@ request_trials : (x : Exchange) (es : List Exchange) → x.owner ≡ requested �
 request_trials x es e = ap (λ (o : Owner). own_by o x (trials es)) e
 
 off_piece : (i : Interface) (p : Progress) (selected : ℕ) (xs room : List ℕ) (es : List Exchange) → NowBy (some p selected) es → Free (some p selected) es → length (trials es) ≤ 8
-    → let o = (outcome_of (made i (Waiting p selected) Off) p selected xs room).answer in Holds false o (fed xs o.used es) (answers_in (trials es))
+    → let o = (outcome_of (made i (Waiting p selected) None) p selected xs room).answer in Holds false o (fed xs o.used es) (answers_in (trials es))
 off_piece i p selected xs room [] now free few = absurd (true≢false now)
 off_piece i p selected xs room (x ∷ es) now free few =
     let m = fed_from p.awaited p.phase xs room in
-    let o = (outcome_of (made i (Waiting p selected) Off) p selected xs room).answer in
+    let o = (outcome_of (made i (Waiting p selected) None) p selected xs room).answer in
     let y = exchange x.owner x.awaited (x.bytes ++ xs) (x.used + o.used) in
     let same : trials (y ∷ es) ≡ trials (x ∷ es) = request_trials y es free ∙ sym (request_trials x es free) in
     off_taken m.answer.verdict m.answer i (Waiting p selected) p.awaited selected (y ∷ es) (answers_in (trials (x ∷ es))) (free_head y es free)
@@ -456,7 +456,7 @@ off_piece i p selected xs room (x ∷ es) now free few =
 -- the command x is out, behind es, and with the piece its bytes came to y
 module _ (plan : Plan) (found : Search) (i : Interface) (state : State) (x y : Exchange) (es : List Exchange) (ask : Asked found x.owner x.awaited es) (same-owner : y.owner ≡ x.owner) where
   abbrev s : Session
-  s = made i state (On plan found)
+  s = made i state (searching plan found)
 
   abbrev old : List Told
   old = answers_in (before x.owner es)
@@ -481,7 +481,7 @@ module _ (plan : Plan) (found : Search) (i : Interface) (state : State) (x y : E
   answers_now v e = ap answers_in trials_now ∙ ap₂ (λ (w : Verdict) (l : ℕ). answer_by w l old) e at_level
 
   -- before the reply's end there is no answer
-  none_yet : (v : Verdict) → verdict_in y ≡ v → answer_by v found.level old ≡ old → None (answers_in (trials (y ∷ es))) old
+  none_yet : (v : Verdict) → verdict_in y ≡ v → answer_by v found.level old ≡ old → NoneMore (answers_in (trials (y ∷ es))) old
   none_yet v e n = omega (arith, ap length (answers_now v e ∙ n))
 
   -- the answer e came
@@ -492,7 +492,7 @@ module _ (plan : Plan) (found : Search) (i : Interface) (state : State) (x y : E
     answered : answers_in (trials (y ∷ es)) ≡ ts
     answered = answers_now (Ended e) v ∙ is_one
 
-    one : One (answers_in (trials (y ∷ es))) old
+    one : OneMore (answers_in (trials (y ∷ es))) old
     one = ap length answered
 
     long : length ts ≡ length (trials (y ∷ es))
@@ -533,12 +533,12 @@ module _ (plan : Plan) (found : Search) (i : Interface) (state : State) (x y : E
         }
 
     -- the chip's error
-    erred : (code : ℕ) → e ≡ Error code → (w : Awaits) (o : Outcome) → o.session.calibration ≡ Off → awaits o.session.state ≡ none
+    erred : (code : ℕ) → e ≡ Error code → (w : Awaits) (o : Outcome) → o.session.calibration ≡ None → awaits o.session.state ≡ none
         → o.answer ≡ Answer.Refused (CalibrationError code found.commands) → Holds true o (y ∷ es) old
     erred code q w o off rest a =
         record {
           few = few_now;
-          live = subst (λ (c : Calibration). Live c o.session.state (y ∷ es)) (sym off) (subst (λ (z : Awaits). Free z (y ∷ es)) (sym rest) tt);
+          live = subst (λ (c : Option Calibration). Live c o.session.state (y ∷ es)) (sym off) (subst (λ (z : Awaits). Free z (y ∷ es)) (sym rest) tt);
           says =
               subst (λ (z : Answer). SaysBy true z (length (trials (y ∷ es))) (answers_in (trials (y ∷ es))) old) (sym a)
               (subst (λ (us : List Told). RefusedBy (Fits 12 (code ∷ found.commands ∷ [])) true (ended found.commands) (length (trials (y ∷ es))) us old) (sym answered) (
@@ -555,12 +555,12 @@ module _ (plan : Plan) (found : Search) (i : Interface) (state : State) (x y : E
         no_error c false z = let y : ◌≡◌ {A = ℕ} 0 1 = cc in omega arith
 
   -- a wake came
-  woke_by : (w : Wake) → verdict_in y ≡ Ended (Woken w) → (w ≡ Timeout) ⊎ (w ≡ Tag) → (k : ℕ) (place : Place) → Holds true (woken (On plan found) w s k place) (y ∷ es) old
+  woke_by : (w : Wake) → verdict_in y ≡ Ended (Woken w) → (w ≡ Timeout) ⊎ (w ≡ Tag) → (k : ℕ) (place : Place) → Holds true (woken (searching plan found) w s k place) (y ∷ es) old
   woke_by w v by k place =
       ⊎_elim
-      (λ q. subst (λ (z : Wake). verdict_in y ≡ Ended (Woken z) → Holds true (woken (On plan found) z s k place) (y ∷ es) old) (sym q)
+      (λ q. subst (λ (z : Wake). verdict_in y ≡ Ended (Woken z) → Holds true (woken (searching plan found) z s k place) (y ∷ es) old) (sym q)
       (λ v'. led timeout v' refl Timeout refl k place (timed_out found) (turns_timeout found) ask.n ask.left (way_timeout ask.n found old ask.passes)) v)
-      (λ q. subst (λ (z : Wake). verdict_in y ≡ Ended (Woken z) → Holds true (woken (On plan found) z s k place) (y ∷ es) old) (sym q)
+      (λ q. subst (λ (z : Wake). verdict_in y ≡ Ended (Woken z) → Holds true (woken (searching plan found) z s k place) (y ∷ es) old) (sym q)
       (λ v'. led tag v' refl Tag refl k place (tagged found) (turns_tag found) ask.n ask.left (way_tag ask.n found old ask.passes)) v)
       by
 
@@ -575,7 +575,7 @@ module _ (plan : Plan) (found : Search) (i : Interface) (state : State) (x y : E
 -- a piece that leads to a step, with its bytes ys in all
 module _ (plan : Plan) (found : Search) (i : Interface) (p : Progress) (selected : ℕ) (x : Exchange) (es : List Exchange) (ask : Asked found x.owner x.awaited es) (ys : List ℕ) where
   abbrev after : Fed → Outcome
-  after r = outcome_by r.verdict r (made i (Waiting p selected) (On plan found)) p.awaited selected
+  after r = outcome_by r.verdict r (made i (Waiting p selected) (searching plan found)) p.awaited selected
 
   abbrev now : ℕ → Exchange
   now k = exchange x.owner x.awaited ys (x.used + k)
@@ -599,31 +599,31 @@ module _ (plan : Plan) (found : Search) (i : Interface) (p : Progress) (selected
       overs : End → Place → ℕ → Fed
       overs e place u = Rattle.model.specs.Replies.over p.awaited e place u
 
-on_piece : (plan : Plan) (found : Search) (i : Interface) (p : Progress) (selected : ℕ) (xs room : List ℕ) (es : List Exchange) → NowBy (some p selected) es → Live (On plan found) (Waiting p selected) es
-    → let o = (outcome_of (made i (Waiting p selected) (On plan found)) p selected xs room).answer in Holds true o (fed xs o.used es) (answers_in (trials es))
+on_piece : (plan : Plan) (found : Search) (i : Interface) (p : Progress) (selected : ℕ) (xs room : List ℕ) (es : List Exchange) → NowBy (some p selected) es → Live (searching plan found) (Waiting p selected) es
+    → let o = (outcome_of (made i (Waiting p selected) (searching plan found)) p selected xs room).answer in Holds true o (fed xs o.used es) (answers_in (trials es))
 on_piece plan found i p selected xs room [] v l = absurd l
 on_piece plan found i p selected xs room (x ∷ es) v ask =
-    let o = (outcome_of (made i (Waiting p selected) (On plan found)) p selected xs room).answer in
+    let o = (outcome_of (made i (Waiting p selected) (searching plan found)) p selected xs room).answer in
     subst (Holds true o (fed xs o.used (x ∷ es))) (sym (answers_now plan found i (Waiting p selected) x x es ask refl More (ap verdict_of v.stands.1)))
     (on_step plan found i p selected x es ask (x.bytes ++ xs) (reached (form_of p.awaited) (reading p.phase) xs) _ _ _ room _ _ (led_on p selected x xs v))
 
 -- ---- what a call does
 
-keep_pulse : (state : State) (c : Calibration) (es : List Exchange) → Live c state es → Live c (pulsed state) es
-keep_pulse PowerUp Off es l = l
-keep_pulse PowerUp (On plan found) es l = absurd l
+keep_pulse : (state : State) (c : Option Calibration) (es : List Exchange) → Live c state es → Live c (pulsed state) es
+keep_pulse PowerUp None es l = l
+keep_pulse PowerUp (Some c) es l = absurd l
 keep_pulse Ready c es l = l
 keep_pulse (Selected protocol) c es l = l
 keep_pulse (Waiting p selected) c es l = l
 keep_pulse Lost c es l = l
 
 -- a request that is not refused finds no calibration
-free : (c : Calibration) (state : State) (p : Progress) (selected : ℕ) (a : Awaited) (es : List Exchange) → (is_waiting state || is_running c) ≡ false → Live c (Waiting p selected) (exchange requested a [] 0 ∷ es)
-free Off state p selected a es f = refl
-free (On plan found) state p selected a es f = not_free state f
+free : (c : Option Calibration) (state : State) (p : Progress) (selected : ℕ) (a : Awaited) (es : List Exchange) → (is_waiting state || is_running c) ≡ false → Live c (Waiting p selected) (exchange requested a [] 0 ∷ es)
+free None state p selected a es f = refl
+free (Some c) state p selected a es f = not_free state f
 
 -- a command that is due
-due_in : (plan : Plan) (found : Search) (state : State) (es : List Exchange) → not (is_due state found) ≡ false → Live (On plan found) state es
+due_in : (plan : Plan) (found : Search) (state : State) (es : List Exchange) → not (is_due state found) ≡ false → Live (searching plan found) state es
     → Due found (length (trials es)) (answers_in (trials es))
 due_in plan found PowerUp es d l = absurd l
 due_in plan found Ready [] d l = absurd l
@@ -636,18 +636,18 @@ due_in plan found Lost es d l = absurd l
 pub given_idle : (i : Interface) (plan : Plan) (level : ℕ) (rest : List ℕ) → Idled (idled (source_in (bytes i (send (idle (settings_at plan level))) ++ rest)))
 given_idle i plan level rest = subst (λ (n : ℕ). Idled (idled n)) (sym (source_is i plan level rest)) (idled_at plan level)
 
-keep_next : (c : Calibration) (s : Session) (out : List ℕ) (h : List Event) → Live c s.state (exchanges h)
+keep_next : (c : Option Calibration) (s : Session) (out : List ℕ) (h : List Event) → Live c s.state (exchanges h)
     → Passes (continuing c s.state ++ writing_next c s out) → Keeps (is_running c) h (next out) (continues c s out)
-keep_next Off s out h l p = absurd (true≢false p.0)
-keep_next (On plan found) s out h l p =
-    let d = due_in plan found s.state (exchanges h) p.0 l in
+keep_next None s out h l p = absurd (true≢false p.0)
+keep_next (Some c) s out h l p =
+    let d = due_in c.plan c.search s.state (exchanges h) p.0 l in
     record {
       few = omega (arith, d.left, d.sent);
       live =
           record {
             own = tt;
-            level = level_is s.interface plan found.level _;
-            idles = given_idle s.interface plan found.level _;
+            level = level_is s.interface c.plan c.search.level _;
+            idles = given_idle s.interface c.plan c.search.level _;
             n = d.n;
             left = omega (arith, d.left);
             sent = omega (arith, d.sent);
@@ -692,10 +692,10 @@ keep_done s h v (feed (x ∷ xs) room) (w, (e, _)) =
     (awaited (λ (z : State). Now z (exchanges h) → Live s.calibration z (exchanges h) → Holds (is_running s.calibration) (o z) (fed (x ∷ xs) (o z).used (exchanges h)) (answers h)) s.state w
     (λ p selected now live. by_piece s.calibration p selected now live) v.now v.live)
   where
-    by_piece : (c : Calibration) (p : Progress) (selected : ℕ) → NowBy (some p selected) (exchanges h) → Live c (Waiting p selected) (exchanges h)
+    by_piece : (c : Option Calibration) (p : Progress) (selected : ℕ) → NowBy (some p selected) (exchanges h) → Live c (Waiting p selected) (exchanges h)
         → let z = (outcome_of (made s.interface (Waiting p selected) c) p selected (x ∷ xs) room).answer in Holds (is_running c) z (fed (x ∷ xs) z.used (exchanges h)) (answers h)
-    by_piece Off p selected now live = off_piece s.interface p selected (x ∷ xs) room (exchanges h) now live v.few
-    by_piece (On plan found) p selected now live = on_piece plan found s.interface p selected (x ∷ xs) room (exchanges h) now live
+    by_piece None p selected now live = off_piece s.interface p selected (x ∷ xs) room (exchanges h) now live v.few
+    by_piece (Some c) p selected now live = on_piece c.plan c.search s.interface p selected (x ∷ xs) room (exchanges h) now live
 
 pub keeps : (s : Session) (h : List Event) → Inv s h → (c : Call) → Keeps (is_running s.calibration) h c (step s c)
 keeps s h v c = by_step (Keeps (is_running s.calibration) h c) s c (keep_refused s h v c) (keep_done s h v c)

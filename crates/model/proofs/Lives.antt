@@ -1,5 +1,6 @@
 -- How long a calibration runs: what stops it, and that it goes on otherwise.
 -- Assumes nothing.
+use Rattle.std.specs.Prelude.{Option, Some, None}
 use Prim.Native.Nat.{ℕ, suc, ◌≤◌, ◌<◌}
 use native.Mathlib.Omega.{arith}
 use mathlib.Core.Path.{◌≡◌, refl, sym, ap, ◌∙◌}
@@ -24,7 +25,6 @@ use Rattle.model.specs.declared.Fed.{Fed}
 use Rattle.model.specs.declared.Plan.{Plan}
 use Rattle.model.specs.declared.Search.{Search}
 use Rattle.model.specs.declared.Calibration.{Calibration}
-use Rattle.model.specs.declared.Calibration.TheVariants.{Off, On}
 use Rattle.model.specs.declared.Turn.{Turn}
 use Rattle.model.specs.declared.State.{State}
 use Rattle.model.specs.declared.State.TheVariants.{PowerUp, Ready, Selected, Waiting, Lost}
@@ -35,7 +35,7 @@ use Rattle.words.specs.Contract.{Ran}
 use Rattle.model.specs.Refusals.{number_of}
 use Rattle.model.specs.Frames.{idle, send, writing}
 use Rattle.model.specs.Replies.{fed_from}
-use Rattle.model.specs.Calibration.{settings_at, most_commands, is_tag}
+use Rattle.model.specs.Calibration.{settings_at, most_commands, is_tag, searching}
 use Rattle.model.specs.Checks.{Passes, mild}
 use Rattle.model.specs.Session.{made, refuse, lent, is_waiting, is_running, turned, outcome_by, awaits, takes, checks, does, Call, power_on, pulse, request, reset, poll, read, calibrate, next, feed, step}
 use Rattle.model.specs.History.{Event, event, Passing, passing_by, passing, trials, exchanges, commands, answers_in, answers}
@@ -86,17 +86,17 @@ heard_goes plan found w s k place =
     (λ _. ways P (eqb n 2) (λ _. refl) (λ _. ways P (ltb n most_commands) (λ _. refl) (λ _. ways P (ltb found.level 4) (λ _. refl) (λ _. refl)))))
 
 taken_goes : (v : Verdict) (r : Fed) (i : Interface) (state : State) (plan : Plan) (found : Search) (a : Awaited) (selected : ℕ)
-    → Runs (outcome_by v r (made i state (On plan found)) a selected)
+    → Runs (outcome_by v r (made i state (searching plan found)) a selected)
 taken_goes More r i state plan found a selected = refl
 taken_goes (Ended Good) r i state plan found a selected = refl
-taken_goes (Ended (Woken w)) r i state plan found a selected = heard_goes plan found w (made i state (On plan found)) r.used r.place
+taken_goes (Ended (Woken w)) r i state plan found a selected = heard_goes plan found w (made i state (searching plan found)) r.used r.place
 taken_goes (Ended (Error code)) r i state plan found a selected = refl
 taken_goes (Ended (End.Malformed at b)) r i state plan found a selected = refl
 taken_goes NoRoom r i state plan found a selected = refl
 
 module _ (i : Interface) (state : State) (plan : Plan) (found : Search) where
   abbrev s : Session
-  s = made i state (On plan found)
+  s = made i state (searching plan found)
 
   done_goes : (c : Call) → Passes (checks s c) → Goes c (does s c)
   done_goes (power_on j) p = refl
@@ -118,9 +118,9 @@ module _ (i : Interface) (state : State) (plan : Plan) (found : Search) where
 pub goes_on : (s : Session) → is_running s.calibration ≡ true → (c : Call) → Goes c (step s c)
 goes_on s on c = go s.calibration on
   where
-    go : (k : Calibration) → is_running k ≡ true → Goes c (step (made s.interface s.state k) c)
-    go Off e = absurd (true≢false (sym e))
-    go (On plan found) e = goes_in s.interface s.state plan found c
+    go : (k : Option Calibration) → is_running k ≡ true → Goes c (step (made s.interface s.state k) c)
+    go None e = absurd (true≢false (sym e))
+    go (Some q) e = goes_in s.interface s.state q.plan q.search c
 
 pub stops : Stops
 stops r a on c e q =
@@ -139,9 +139,9 @@ pub does_it : (s : Session) (c : Call) → Passes (checks s c) → step s c ≡ 
 does_it s c p = passed (λ k. refuse s k (lent c)) (does s c) (checks s c) p
 
 pub next_sent : (i : Interface) (plan : Plan) (found : Search) (output : List ℕ) → found.commands < 8 → least_output ≤ length output
-    → step (made i Ready (On plan found)) (next output) ≡ does (made i Ready (On plan found)) (next output)
+    → step (made i Ready (searching plan found)) (next output) ≡ does (made i Ready (searching plan found)) (next output)
 next_sent i plan found output few h =
-    does_it (made i Ready (On plan found)) (next output) (ap not (lt-ltb found.commands most_commands few), long_enough i plan found.level output h)
+    does_it (made i Ready (searching plan found)) (next output) (ap not (lt-ltb found.commands most_commands few), long_enough i plan found.level output h)
 
 abbrev LivesIn : Session → List Event → Type 0
 LivesIn s h =
@@ -149,10 +149,10 @@ LivesIn s h =
     ⊎ ((s.state ≡ Ready) × (length (answers h) ≡ commands h) × (commands h < 8)
     × ((output : List ℕ) → least_output ≤ length output → (n : ℕ) × ((step s (next output)).answer.answer ≡ Answer.Sent n)))
 
-lives_in : (i : Interface) (state : State) (plan : Plan) (found : Search) (h : List Event) → Inv (made i state (On plan found)) h → LivesIn (made i state (On plan found)) h
+lives_in : (i : Interface) (state : State) (plan : Plan) (found : Search) (h : List Event) → Inv (made i state (searching plan found)) h → LivesIn (made i state (searching plan found)) h
 lives_in i state plan found h v = go state (exchanges h) refl v.now v.live
   where
-    go : (state : State) (es : List _) → es ≡ exchanges h → NowBy (awaits state) es → Live (On plan found) state es → LivesIn (made i state (On plan found)) h
+    go : (state : State) (es : List _) → es ≡ exchanges h → NowBy (awaits state) es → Live (searching plan found) state es → LivesIn (made i state (searching plan found)) h
     go PowerUp es e n l = absurd l
     go Ready [] e n l = absurd l
     go Ready (x ∷ es) e n (_, d) =
@@ -176,6 +176,6 @@ lives_in i state plan found h v = go state (exchanges h) refl v.now v.live
 pub lives : Lives
 lives r a on = go r.session.calibration on (inv_of r a)
   where
-    go : (k : Calibration) → is_running k ≡ true → Inv (made r.session.interface r.session.state k) r.history → LivesIn (made r.session.interface r.session.state k) r.history
-    go Off e v = absurd (true≢false (sym e))
-    go (On plan found) e v = lives_in r.session.interface r.session.state plan found r.history v
+    go : (k : Option Calibration) → is_running k ≡ true → Inv (made r.session.interface r.session.state k) r.history → LivesIn (made r.session.interface r.session.state k) r.history
+    go None e v = absurd (true≢false (sym e))
+    go (Some c) e v = lives_in r.session.interface r.session.state c.plan c.search r.history v

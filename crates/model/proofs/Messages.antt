@@ -1,5 +1,6 @@
 -- The messages of the demo board: what is written is read back as itself, whatever is read is the message that it names, and all else is malformed.
 -- Assumes nothing.
+use Rattle.std.specs.Prelude.{Err, None, Ok, Option, Result, Some}
 use Prim.Native.Nat.{ℕ, ◌+◌, ◌-◌, ◌*◌, ◌/◌, ◌%◌, ◌≤◌, ◌<◌}
 use native.Mathlib.Omega.{arith}
 use mathlib.Core.Path.{◌≡◌, refl, sym, ap, ap₂, ◌∙◌, subst}
@@ -27,12 +28,6 @@ use Rattle.model.specs.declared.Family.TheVariants.{Chip, Board}
 use Rattle.model.specs.declared.Contents.{Contents}
 use Rattle.model.specs.declared.Contents.TheVariants.{Bytes, Level, Tags}
 use Rattle.model.specs.declared.MessageRow.{MessageRow}
-use Rattle.model.specs.declared.Named.{Named}
-use Rattle.model.specs.declared.Named.TheVariants.{Known, Unknown}
-use Rattle.model.specs.declared.CommandRead.{CommandRead}
-use Rattle.model.specs.declared.CommandRead.TheVariants.{Taken}
-use Rattle.model.specs.declared.AnswerRead.{AnswerRead}
-use Rattle.model.specs.declared.AnswerRead.TheVariants.{Carries, BoardError, ChipError}
 use Rattle.words.specs.Words.{pick, within}
 use Rattle.words.specs.Words.{Bytes as AllBytes}
 use Rattle.model.specs.Frames.{bare, framed, frame, part}
@@ -45,6 +40,8 @@ use Rattle.words.proofs.Contract.{one_answer, one_outcome}
 use Rattle.model.proofs.Frames.{both}
 use Rattle.model.proofs.Machine.{Bounded, data_all}
 use Rattle.model.proofs.Table.{bounded, completes, tabled}
+use Rattle.model.specs.declared.AnswerError.TheVariants.{BoardError, ChipError}
+use Rattle.model.specs.declared.AnswerError.{AnswerError}
 
 -- ---- the table
 
@@ -66,7 +63,7 @@ Own (Chip kind) r =
 
 -- each is found by its code; no code is one that stands alone; no answer begins with an error code of the MCU's
 pub record Lawful (m : Message) : Type 0 where
-  found : named (row m).code ≡ Known m
+  found : named (row m).code ≡ Some m
   counted : bare (row m).code ≡ false
   answer_counted : bare (row m).response ≡ false
   no_error : is_board_error (row m).response ≡ false
@@ -83,9 +80,9 @@ lawful IsWakeUp = record { found = refl; counted = refl; answer_counted = refl; 
 lawful CalibrateTagDetecting = record { found = refl; counted = refl; answer_counted = refl; no_error = refl; of_bytes = refl; own = tt }
 
 -- a message that was found has the code
-abbrev Right : ℕ → Named → Type 0
-Right code (Known m) = (row m).code ≡ code
-Right code Unknown = Unit {0}
+abbrev Right : ℕ → Option Message → Type 0
+Right code (Some m) = (row m).code ≡ code
+Right code None = Unit {0}
 
 right : (code : ℕ) (ms : List Message) → Right code (found_in code ms)
 right code [] = tt
@@ -99,10 +96,10 @@ counts code xs f = ap (λ (b : Bool). pick b (code ∷ xs) (code ∷ length xs �
 
 module _ (m : Message) (xs : List ℕ) (h : takes m xs ≡ true) where
   abbrev CommandBack : List ℕ → Type 0
-  CommandBack frame = (p : Part) × (read_message (family_byte (row m).family ∷ frame) ≡ Taken m p) × (within (family_byte (row m).family ∷ frame) p ≡ xs)
+  CommandBack frame = (p : Part) × (read_message (family_byte (row m).family ∷ frame) ≡ Some (m, p)) × (within (family_byte (row m).family ∷ frame) p ≡ xs)
 
-  in_row : taken (named (row m).code) (family_byte (row m).family) xs ≡ Taken m (part 3 (length xs))
-  in_row = ap (λ (n : Named). taken n (family_byte (row m).family) xs) (lawful m).found ∙ simp (eq-eqb (family_byte (row m).family) (family_byte (row m).family) refl, h)
+  in_row : taken (named (row m).code) (family_byte (row m).family) xs ≡ Some (m, part 3 (length xs))
+  in_row = ap (λ (n : Option Message). taken n (family_byte (row m).family) xs) (lawful m).found ∙ simp (eq-eqb (family_byte (row m).family) (family_byte (row m).family) refl, h)
 
   pub command_back : CommandBack (framed (row m).code xs)
   command_back =
@@ -113,14 +110,14 @@ pub commands_back : CommandsBack
 commands_back m xs h = command_back m xs h
 
 -- what is read is the message that it names
-abbrev Sound : List ℕ → CommandRead → Type 0
-Sound xs (Taken m p) = (takes m (within xs p) ≡ true) × (asking m (within xs p) ≡ xs)
-Sound xs CommandRead.Malformed = Unit {0}
+abbrev Sound : List ℕ → Option (Message × Part) → Type 0
+Sound xs (Some (m, p)) = (takes m (within xs p) ≡ true) × (asking m (within xs p) ≡ xs)
+Sound xs None = Unit {0}
 
 module _ (family code n : ℕ) (xs : List ℕ) (e : n ≡ length xs) where
-  sound_taken : (found : Named) → Right code found → Sound (family ∷ code ∷ n ∷ xs) (taken found family xs)
-  sound_taken Unknown r = tt
-  sound_taken (Known m) r =
+  sound_taken : (found : Option Message) → Right code found → Sound (family ∷ code ∷ n ∷ xs) (taken found family xs)
+  sound_taken None r = tt
+  sound_taken (Some m) r =
       ways (Sound (family ∷ code ∷ n ∷ xs)) (eqb family (family_byte (row m).family) && takes m xs)
       (λ t.
       let fits = both (eqb family (family_byte (row m).family)) (takes m xs) t in
@@ -144,9 +141,9 @@ only_commands xs m p e = subst (Sound xs) e (sound xs)
 pub commands_else : CommandsElse
 commands_else xs none = go (read_message xs) (sound xs)
   where
-    go : (r : CommandRead) → Sound xs r → r ≡ CommandRead.Malformed
-    go (Taken m p) h = absurd (none m (within xs p) h.0 h.1)
-    go CommandRead.Malformed h = refl
+    go : (r : Option (Message × Part)) → Sound xs r → r ≡ None
+    go (Some (m, p)) h = absurd (none m (within xs p) h.0 h.1)
+    go None h = refl
 
 -- ---- answers of the board's own
 
@@ -160,12 +157,12 @@ error_counted code h = go (eqb code 0x55) refl
 
 pub errors_back : ErrorsBack
 errors_back m code h =
-    subst (λ (l : List ℕ). read_answer m l ≡ BoardError code) (sym (counts code [] (error_counted code h))) (simp h)
+    subst (λ (l : List ℕ). read_answer m l ≡ Err (BoardError code)) (sym (counts code [] (error_counted code h))) (simp h)
 
 -- behind code and count, what is carried is found
 module _ (response : ℕ) (n : ℕ) where
-  abbrev Holds : Contents → List ℕ → List ℕ → AnswerRead → Type 0
-  Holds c xs ds r = (p : Part) × (r ≡ Carries p) × (within (response ∷ n ∷ ds) p ≡ xs)
+  abbrev Holds : Contents → List ℕ → List ℕ → Result Part AnswerError → Type 0
+  Holds c xs ds r = (p : Part) × (r ≡ Ok p) × (within (response ∷ n ∷ ds) p ≡ xs)
 
   opened_back : (c : Contents) (xs : List ℕ) → carries c xs ≡ true → Holds c xs (payload c xs) (opened c (payload c xs))
   opened_back (Bytes k) xs h = (part 2 (length xs), simp h, take-length xs)
@@ -173,11 +170,11 @@ module _ (response : ℕ) (n : ℕ) where
   opened_back Tags xs h = (part 3 (length xs), simp (eq-eqb (length xs / tag_size) (length xs / tag_size) refl, h), take-length xs)
 
 abbrev AnswerBack : Message → List ℕ → List ℕ → Type 0
-AnswerBack m xs l = (p : Part) × (read_answer m l ≡ Carries p) × (within l p ≡ xs)
+AnswerBack m xs l = (p : Part) × (read_answer m l ≡ Ok p) × (within l p ≡ xs)
 
 -- an answer that the MCU does not refuse is read by its row
 good_back : (m : Message) (xs : List ℕ) (p : Part) → let l = (row m).response ∷ length (payload (row m).contents xs) ∷ payload (row m).contents xs in
-    read_good (row m).family (row m) l ≡ Carries p → within l p ≡ xs → AnswerBack m xs (answering m xs)
+    read_good (row m).family (row m) l ≡ Ok p → within l p ≡ xs → AnswerBack m xs (answering m xs)
 good_back m xs p e w =
     subst (AnswerBack m xs) (sym (counts (row m).response (payload (row m).contents xs) (lawful m).answer_counted))
     (p, simp (lawful m).no_error e, w)
@@ -209,17 +206,17 @@ module _ (kind : Kind) (n : ℕ) (xs : List ℕ) (f : form_of (awaited_of kind) 
   abbrev whole : List ℕ
   whole = 0x00 ∷ n ∷ xs
 
-  abbrev by_form : Form → AnswerRead
+  abbrev by_form : Form → Result Part AnswerError
   by_form g = by_verdict (verdict_of (reached g (On Begun) whole)) (used g (On Begun) whole) (length whole)
 
-  exact : by_form (Exactly n) ≡ Carries (part 2 n)
+  exact : by_form (Exactly n) ≡ Ok (part 2 n)
   exact =
       let read = whole_reply n xs e (leb→le n most_data (subst Bounded f (bounded (awaited_of kind)))) in
       let fills : used (Exactly n) (On Begun) whole ≡ length whole = omega (arith, read.1) in
       let behind : length whole - 2 ≡ n = omega arith in
-      rw (read.0, eq-eqb (used (Exactly n) (On Begun) whole) (length whole) fills) (ap (λ (k : ℕ). Carries (part 2 k)) behind)
+      rw (read.0, eq-eqb (used (Exactly n) (On Begun) whole) (length whole) fills) (ap (λ (k : ℕ). Ok (part 2 k)) behind)
 
-  reply_back : read_reply kind whole ≡ Carries (part 2 n)
+  reply_back : read_reply kind whole ≡ Ok (part 2 n)
   reply_back = ap by_form f ∙ exact
 
 handed_back : (m : Message) (kind : Kind) (xs : List ℕ) → (row m).family ≡ Chip kind → Own (Chip kind) (row m) → carries (row m).contents xs ≡ true
@@ -242,11 +239,11 @@ answers_back m xs h = go (row m).family refl (lawful m).own
 -- ---- whatever is read is the answer that it names
 
 -- what is told is borne out; of what is malformed nothing is told
-abbrev Bears : Message → List ℕ → AnswerRead → Type 0
-Bears m xs (Carries p) = IsAnswer m xs (Carries p)
-Bears m xs (BoardError code) = IsAnswer m xs (BoardError code)
-Bears m xs (ChipError code) = IsAnswer m xs (ChipError code)
-Bears m xs AnswerRead.Malformed = Unit {0}
+abbrev Bears : Message → List ℕ → Result Part AnswerError → Type 0
+Bears m xs (Ok p) = IsAnswer m xs (Ok p)
+Bears m xs (Err (BoardError code)) = IsAnswer m xs (Err (BoardError code))
+Bears m xs (Err (ChipError code)) = IsAnswer m xs (Err (ChipError code))
+Bears m xs (Err AnswerError.Malformed) = Unit {0}
 
 -- an error code of the MCU's and no data
 bears_error : (m : Message) (xs : List ℕ) → is_board_error (get_or xs 0 0) ≡ true → Bears m xs (read_error xs)
@@ -265,11 +262,11 @@ bears_error m (code ∷ n ∷ xs) h =
 
 -- what a row carries behind code and count
 module _ (response : ℕ) (f : bare response ≡ false) where
-  abbrev Opens : Contents → List ℕ → AnswerRead → Type 0
-  Opens c xs (Carries p) = (carries c (within xs p) ≡ true) × (framed response (payload c (within xs p)) ≡ xs)
-  Opens c xs (BoardError code) = ⊥
-  Opens c xs (ChipError code) = ⊥
-  Opens c xs AnswerRead.Malformed = Unit {0}
+  abbrev Opens : Contents → List ℕ → Result Part AnswerError → Type 0
+  Opens c xs (Ok p) = (carries c (within xs p) ≡ true) × (framed response (payload c (within xs p)) ≡ xs)
+  Opens c xs (Err (BoardError code)) = ⊥
+  Opens c xs (Err (ChipError code)) = ⊥
+  Opens c xs (Err AnswerError.Malformed) = Unit {0}
 
   opens : (c : Contents) (ds : List ℕ) → Opens c (response ∷ length ds ∷ ds) (opened c ds)
   opens (Bytes n) ds =
@@ -283,11 +280,11 @@ module _ (response : ℕ) (f : bare response ≡ false) where
       (λ _. tt))
       (λ _. tt)
 
-bears_opened : (m : Message) (xs : List ℕ) (r : AnswerRead) → Opens (row m).response (lawful m).answer_counted (row m).contents xs r → Bears m xs r
-bears_opened m xs (Carries p) h = h
-bears_opened m xs (BoardError code) h = absurd h
-bears_opened m xs (ChipError code) h = absurd h
-bears_opened m xs AnswerRead.Malformed h = tt
+bears_opened : (m : Message) (xs : List ℕ) (r : Result Part AnswerError) → Opens (row m).response (lawful m).answer_counted (row m).contents xs r → Bears m xs r
+bears_opened m xs (Ok p) h = h
+bears_opened m xs (Err (BoardError code)) h = absurd h
+bears_opened m xs (Err (ChipError code)) h = absurd h
+bears_opened m xs (Err AnswerError.Malformed) h = tt
 
 bears_carried : (m : Message) (xs : List ℕ) → Bears m xs (read_carried (row m) xs)
 bears_carried m [] = tt
@@ -341,7 +338,7 @@ filled xs ys (z ∷ zs) e l = absurd (omega (arith, ap (λ (us : List ℕ). leng
 module _ (m : Message) (kind : Kind) (family : (row m).family ≡ Chip kind) (n : ℕ) (form : form_of (awaited_of kind) ≡ Exactly n)
     (response : (row m).response ≡ 0x00) (contents : (row m).contents ≡ Bytes n) where
   -- the data of its good reply stand behind code and count
-  carried_so : (ds : List ℕ) → length ds ≡ n → Bears m (0x00 ∷ n ∷ ds) (Carries (part 2 (length (0x00 ∷ n ∷ ds) - 2)))
+  carried_so : (ds : List ℕ) → length ds ≡ n → Bears m (0x00 ∷ n ∷ ds) (Ok (part 2 (length (0x00 ∷ n ∷ ds) - 2)))
   carried_so ds l =
       let behind : length (0x00 ∷ n ∷ ds) - 2 ≡ length ds = omega arith in
       let Holds : Contents → ℕ → List ℕ → Type 0 = λ c r ys. (carries c ys ≡ true) × (framed r (payload c ys) ≡ 0x00 ∷ n ∷ ds) in
@@ -358,7 +355,7 @@ module _ (m : Message) (kind : Kind) (family : (row m).family ≡ Chip kind) (n 
       (λ t.
       let (good, ds, is, long) = exact_bytes r n form no_error_good in
       let whole : 0x00 ∷ n ∷ ds ≡ xs = sym is ∙ filled xs ys zs e (sym l ∙ eqb-true u (length xs) t) in
-      subst (λ (us : List ℕ). Bears m us (Carries (part 2 (length us - 2)))) whole (carried_so ds long))
+      subst (λ (us : List ℕ). Bears m us (Ok (part 2 (length us - 2)))) whole (carried_so ds long))
       (λ _. tt)
   bears_verdict xs (Ended (End.Woken w)) d u (ys, zs, e, l, r) =
       let good : End.Woken w ≡ End.Good = (exact_bytes r n form (no_error_woken w)).0 in absurd (zero_one cc)
@@ -385,20 +382,20 @@ bears m xs = ways (Bears m xs) (is_board_error (get_or xs 0 0)) (bears_error m x
 pub only_answers : OnlyAnswers
 only_answers m xs told = go (read_answer m xs) (bears m xs) told
   where
-    go : (r : AnswerRead) → Bears m xs r → (r ≡ AnswerRead.Malformed → ⊥) → IsAnswer m xs r
-    go (Carries p) h told = h
-    go (BoardError code) h told = h
-    go (ChipError code) h told = h
-    go AnswerRead.Malformed h told = told refl
+    go : (r : Result Part AnswerError) → Bears m xs r → (r ≡ (Err AnswerError.Malformed) → ⊥) → IsAnswer m xs r
+    go (Ok p) h told = h
+    go (Err (BoardError code)) h told = h
+    go (Err (ChipError code)) h told = h
+    go (Err AnswerError.Malformed) h told = told refl
 
 pub answers_else : AnswersElse
 answers_else m xs none = go (read_answer m xs) (bears m xs)
   where
-    go : (r : AnswerRead) → Bears m xs r → r ≡ AnswerRead.Malformed
-    go (Carries p) h = absurd (none (Carries p) h)
-    go (BoardError code) h = absurd (none (BoardError code) h)
-    go (ChipError code) h = absurd (none (ChipError code) h)
-    go AnswerRead.Malformed h = refl
+    go : (r : Result Part AnswerError) → Bears m xs r → r ≡ Err AnswerError.Malformed
+    go (Ok p) h = absurd (none (Ok p) h)
+    go (Err (BoardError code)) h = absurd (none (Err (BoardError code)) h)
+    go (Err (ChipError code)) h = absurd (none (Err (ChipError code)) h)
+    go (Err AnswerError.Malformed) h = refl
 
 -- ---- the chip's error to a command of its own
 
@@ -432,7 +429,7 @@ module _ (kind : Kind) (code : ℕ) (xs : List ℕ) (r : Reply (awaited_of kind)
   ended : reached (form_of (awaited_of kind)) (On Begun) xs ≡ Over (End.Error code)
   ended = ap (reached (form_of (awaited_of kind)) (On Begun)) (sym (append-nil xs)) ∙ completes (awaited_of kind) r []
 
-  pub reply_error : read_reply kind xs ≡ ChipError code
+  pub reply_error : read_reply kind xs ≡ Err (ChipError code)
   reply_error =
       let a = awaited_of kind in
       let (ys, _, _, l, again) = subst (λ (v : Verdict). MeansBy v a xs (reply a xs).payload (reply a xs).used) (ap verdict_of ended) (tabled a xs) in

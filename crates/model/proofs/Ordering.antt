@@ -1,5 +1,6 @@
 -- Laws of an order of checks: what is given, what is done where no row holds, and how a property of a call is shown.
 -- Assumes nothing.
+use Rattle.std.specs.Prelude.{Option, Some, None}
 use Prim.Native.Nat.{ℕ}
 use mathlib.Core.Path.{◌≡◌, refl, sym, ap, ◌∙◌}
 use mathlib.Core.Bool.{Bool, true, false, not, true≢false}
@@ -9,7 +10,6 @@ use Rattle.model.specs.declared.Refusal.{Refusal}
 use Rattle.model.specs.declared.Refusal.TheVariants.{Short, Invalid, Unready, Busy, Malformed, Unawaited, ChipError, LowestTimeout, HighestTag, NoLevel, CalibrationError}
 use Rattle.model.specs.declared.Progress.{Progress}
 use Rattle.model.specs.declared.Calibration.{Calibration}
-use Rattle.model.specs.declared.Calibration.TheVariants.{Off, On}
 use Rattle.model.specs.declared.State.{State}
 use Rattle.model.specs.declared.State.TheVariants.{PowerUp, Ready, Selected, Waiting, Lost}
 use Rattle.model.specs.declared.Session.{Session}
@@ -124,9 +124,9 @@ awaited P (Waiting p selected) w h = h p selected
 awaited P Lost w h = absurd (true≢false w)
 
 -- what is checked before a call is refused mildly
-mild_next : (c : Calibration) (s : Session) (out : List ℕ) → Rated true (continuing c s.state ++ writing_next c s out)
-mild_next Off s out = (refl, tt)
-mild_next (On plan found) s out = (refl, (refl, (refl, tt)))
+mild_next : (c : Option Calibration) (s : Session) (out : List ℕ) → Rated true (continuing c s.state ++ writing_next c s out)
+mild_next None s out = (refl, tt)
+mild_next (Some c) s out = (refl, (refl, (refl, tt)))
 
 rated : (s : Session) (c : Call) → Rated true (checks s c)
 rated s (power_on i) = tt

@@ -1,5 +1,6 @@
 -- Each refusal is given exactly where the table says, and the mild ones leave everything as it was.
 -- Assumes nothing.
+use Rattle.std.specs.Prelude.{Option, Some, None}
 use Prim.Native.Nat.{ℕ, ◌+◌, ◌-◌, ◌*◌, ◌%◌, ◌<◌}
 use native.Mathlib.Omega.{arith}
 use mathlib.Core.Path.{◌≡◌, refl, sym, ap, ◌∙◌}
@@ -23,7 +24,6 @@ use Rattle.model.specs.declared.Fed.{Fed}
 use Rattle.model.specs.declared.Plan.{Plan}
 use Rattle.model.specs.declared.Search.{Search}
 use Rattle.model.specs.declared.Calibration.{Calibration}
-use Rattle.model.specs.declared.Calibration.TheVariants.{Off, On}
 use Rattle.model.specs.declared.Session.{Session}
 use Rattle.model.specs.declared.Answer.{Answer}
 use Rattle.model.specs.declared.Outcome.{Outcome}
@@ -126,13 +126,13 @@ Roomy More = Unit {0}
 Roomy (Ended e) = Unit {0}
 Roomy NoRoom = ⊥
 
-says_woken : (c : Calibration) (w : Wake) (s : Session) (k : ℕ) (place : Place) → Says (woken c w s k place).answer (wake_checks c w)
-says_woken Off w s k place = no_refusal (Answer.Woken w) (goes_on w)
-says_woken (On plan found) w s k place = says_heard found plan w s k place (is_tag w)
+says_woken : (c : Option Calibration) (w : Wake) (s : Session) (k : ℕ) (place : Place) → Says (woken c w s k place).answer (wake_checks c w)
+says_woken None w s k place = no_refusal (Answer.Woken w) (goes_on w)
+says_woken (Some c) w s k place = says_heard c.search c.plan w s k place (is_tag w)
 
-says_error : (c : Calibration) (code : ℕ) → Says (Answer.Refused (error_by c code)) (error_by c code when true ∷ [])
-says_error Off code = one_refusal (Refusal.ChipError code) refl
-says_error (On plan found) code = one_refusal (Refusal.CalibrationError code found.commands) refl
+says_error : (c : Option Calibration) (code : ℕ) → Says (Answer.Refused (error_by c code)) (error_by c code when true ∷ [])
+says_error None code = one_refusal (Refusal.ChipError code) refl
+says_error (Some c) code = one_refusal (Refusal.CalibrationError code c.search.commands) refl
 
 says_ended : (e : End) (s : Session) (a : Awaited) (selected k : ℕ) (place : Place) → Says (ended_by e s a selected k place).answer (end_checks e s.calibration)
 says_ended Good s a selected k place = no_refusal Answer.Good good
@@ -161,9 +161,9 @@ done k e = let z : ◌≡◌ {A = ℕ} 0 1 = cc in omega arith
 sent : (n : ℕ) → Plain (Answer.Sent n)
 sent n k e = let z : ◌≡◌ {A = ℕ} 0 1 = cc in omega arith
 
-says_next : (c : Calibration) (s : Session) (out : List ℕ) → Says (continues c s out).answer.answer []
-says_next Off s out = no_refusal Answer.Done done
-says_next (On plan found) s out = no_refusal (Answer.Sent _) (sent _)
+says_next : (c : Option Calibration) (s : Session) (out : List ℕ) → Says (continues c s out).answer.answer []
+says_next None s out = no_refusal Answer.Done done
+says_next (Some c) s out = no_refusal (Answer.Sent _) (sent _)
 
 says_piece : (w : Awaits) (s : Session) (x : ℕ) (xs room : List ℕ)
     → Says (takes w s (x ∷ xs) room).answer.answer (piece_checks w s.calibration (x ∷ xs) room)

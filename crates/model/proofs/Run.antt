@@ -1,5 +1,6 @@
 -- A calibration that is driven, in any company: it ends within eight commands, and with a steady chip names the highest level that gives a tag.
 -- Assumes nothing.
+use Rattle.std.specs.Prelude.{Option, Some, None}
 use Prim.Native.Nat.{ℕ, suc, ◌+◌, ◌≤◌, ◌<◌}
 use native.Mathlib.Omega.{arith}
 use mathlib.Core.Path.{◌≡◌, refl, sym, ap, ap₂, subst, ◌∙◌}
@@ -23,7 +24,6 @@ use Rattle.model.specs.declared.Verdict.TheVariants.{More, Ended, NoRoom}
 use Rattle.model.specs.declared.Fed.{Fed}
 use Rattle.model.specs.declared.Plan.{Plan}
 use Rattle.model.specs.declared.Calibration.{Calibration}
-use Rattle.model.specs.declared.Calibration.TheVariants.{Off, On}
 use Rattle.model.specs.declared.State.{State}
 use Rattle.model.specs.declared.State.TheVariants.{PowerUp, Ready, Selected, Waiting, Lost}
 use Rattle.model.specs.declared.Session.{Session}
@@ -232,9 +232,9 @@ unawaited_done s w (read n out) p = refl
 unawaited_done s w (calibrate plan out) p = refl
 unawaited_done s w (next out) p = go s.calibration
   where
-    go : (c : Calibration) → ends (continues c s out).answer.answer ≡ false
-    go Off = refl
-    go (On plan found) = refl
+    go : (c : Option Calibration) → ends (continues c s out).answer.answer ≡ false
+    go None = refl
+    go (Some c) = refl
 unawaited_done s w (feed [] room) p = refl
 unawaited_done s w (feed (x ∷ xs) room) (q, _) = absurd (true≢false (ap not (sym w) ∙ q))
 
@@ -247,7 +247,7 @@ Stays c m = is_fair (passing_by c m.answer.answer m.answer.used m.bytes) ≡ tru
 
 module _ (i : Interface) (state : State) where
   abbrev idle : Session
-  idle = made i state Off
+  idle = made i state None
 
   off_read : (v : Verdict) (r : Fed) (a : Awaited) (selected : ℕ) → is_running (outcome_by v r idle a selected).session.calibration ≡ false
   off_read More r a selected = refl
@@ -276,9 +276,9 @@ module _ (i : Interface) (state : State) where
 off_stays : (s : Session) (c : Call) → is_running s.calibration ≡ false → Stays c (step s c)
 off_stays s c off = go s.calibration off
   where
-    go : (k : Calibration) → is_running k ≡ false → Stays c (step (made s.interface s.state k) c)
-    go Off e = by_step (Stays c) (made s.interface s.state Off) c (λ k _ _ _. refl) (λ _. off_done s.interface s.state c)
-    go (On plan found) e = absurd (true≢false e)
+    go : (k : Option Calibration) → is_running k ≡ false → Stays c (step (made s.interface s.state k) c)
+    go None e = by_step (Stays c) (made s.interface s.state None) c (λ k _ _ _. refl) (λ _. off_done s.interface s.state c)
+    go (Some c) e = absurd (true≢false e)
 
 fair_power : (p : Passing) → is_fair p ≡ true → is_power p ≡ false
 fair_power (given o a) f = refl
@@ -322,9 +322,9 @@ free_not : (w : Awaits) (x : Exchange) (es : List Exchange) → Own x.owner → 
 free_not none x es own f = refl
 free_not (some p selected) x es own f = absurd (subst Own f own)
 
-off_free : (c : Calibration) (state : State) (es : List Exchange) → is_running c ≡ false → Live c state es → Free (awaits state) es
-off_free Off state es e l = l
-off_free (On plan found) state es e l = absurd (true≢false e)
+off_free : (c : Option Calibration) (state : State) (es : List Exchange) → is_running c ≡ false → Live c state es → Free (awaits state) es
+off_free None state es e l = l
+off_free (Some c) state es e l = absurd (true≢false e)
 
 none_waits : (state : State) → awaits state ≡ none → is_waiting state ≡ false
 none_waits state e = ap is_some e
@@ -570,9 +570,9 @@ module _ (f : ℕ → Bool) (st : Steady f) where
   known_ready (Waiting p selected) e = absurd (true≢false (ap is_waiting e))
   known_ready Lost e = e
 
-  off_is : (c : Calibration) → is_running c ≡ false → c ≡ Off
-  off_is Off e = refl
-  off_is (On plan found) e = absurd (true≢false e)
+  off_is : (c : Option Calibration) → is_running c ≡ false → c ≡ None
+  off_is None e = refl
+  off_is (Some c) e = absurd (true≢false e)
 
   module _ (i : Interface) (n : ℕ) (r : Reached) (m : Heard i n r) where
     ready : r.session.state ≡ Ready
@@ -584,7 +584,7 @@ module _ (f : ℕ → Bool) (st : Steady f) where
         ∙ ap (λ (t : Step). tracked (verdict_of t) x.awaited (state_in (awake r.history) m.within.older)) (m.within.led ∙ ap Over m.tells)
         ∙ tracked_ready (f (level_of x.owner)) x.awaited (state_in (awake r.history) m.within.older))
 
-    ended_so : is_running r.session.calibration ≡ false → r.session ≡ made i Ready Off
+    ended_so : is_running r.session.calibration ≡ false → r.session ≡ made i Ready None
     ended_so off =
         let e₁ = m.interface in
         let e₂ = ready in
@@ -593,7 +593,7 @@ module _ (f : ℕ → Bool) (st : Steady f) where
 
   goes_steadily : (i : Interface) (ts : List Round) (n : ℕ) (r : Reached) → Heard i n r → Driven (steadily f) r ts
       → ((length ts + n < 7) × (is_running (talk r ts).session.calibration ≡ true))
-      ⊎ ((length ts + n ≡ 7) × Named f (talk r ts).history × ((talk r ts).session ≡ made i Ready Off))
+      ⊎ ((length ts + n ≡ 7) × Named f (talk r ts).history × ((talk r ts).session ≡ made i Ready None))
   unfolding next_out
   goes_steadily i [] n r m d =
       ⊎_elim (λ on. inl (omega (arith, (due m.within on).0), on))

@@ -1,5 +1,6 @@
 -- The state of a session is the one that the cable tells; its interface is that of the newest power-on.
 -- Assumes nothing.
+use Rattle.std.specs.Prelude.{Option, Some, None}
 use Prim.Native.Nat.{ℕ, zero, suc, ◌+◌}
 use mathlib.Core.Path.{◌≡◌, refl, sym, ap, ap₂, subst, ◌∙◌}
 use mathlib.Core.Bool.{Bool, true, false, not, ◌||◌, true≢false}
@@ -25,7 +26,6 @@ use Rattle.model.specs.declared.Fed.{Fed}
 use Rattle.model.specs.declared.Plan.{Plan}
 use Rattle.model.specs.declared.Search.{Search}
 use Rattle.model.specs.declared.Calibration.{Calibration}
-use Rattle.model.specs.declared.Calibration.TheVariants.{Off, On}
 use Rattle.model.specs.declared.Turn.{Turn}
 use Rattle.model.specs.declared.Turn.TheVariants.{Goes, Names, Fails}
 use Rattle.model.specs.declared.State.{State}
@@ -170,9 +170,9 @@ turned_is (Goes found) plan w s k place = refl
 turned_is (Names r n) plan w s k place = refl
 turned_is (Fails j) plan w s k place = refl
 
-woken_is : (c : Calibration) (w : Wake) (s : Session) (k : ℕ) (place : Place) → (woken c w s k place).session.state ≡ Ready
-woken_is Off w s k place = refl
-woken_is (On plan found) w s k place = turned_is (heard found w) plan w s k place
+woken_is : (c : Option Calibration) (w : Wake) (s : Session) (k : ℕ) (place : Place) → (woken c w s k place).session.state ≡ Ready
+woken_is None w s k place = refl
+woken_is (Some c) w s k place = turned_is (heard c.search w) c.plan w s k place
 
 -- ProtocolSelect, or all else
 either_is : (b : Bool) (x y x' y' : State) → known x ≡ x' → known y ≡ y' → known (pick b x y) ≡ pick b x' y'
@@ -284,11 +284,11 @@ module _ (awake : Bool) (s : Session) (es : List Exchange) (v : Tracked awake s.
   track_refused (feed [] room) k g = absurd g
   track_refused (feed (x ∷ xs) room) k g = refused_piece x xs room k g
 
-  track_next : (c : Calibration) (out : List ℕ) → Passes (continuing c s.state ++ writing_next c s out) → Keeps awake es (next out) (continues c s out)
-  track_next Off out p = absurd (true≢false p.0)
-  track_next (On plan found) out p =
-      let (on, free) = due_ready s.state found p.0 in
-      track_given awake s.state es v on free _ _ _ (ap idled (sym (source_is s.interface plan found.level _)))
+  track_next : (c : Option Calibration) (out : List ℕ) → Passes (continuing c s.state ++ writing_next c s out) → Keeps awake es (next out) (continues c s out)
+  track_next None out p = absurd (true≢false p.0)
+  track_next (Some c) out p =
+      let (on, free) = due_ready s.state c.search p.0 in
+      track_given awake s.state es v on free _ _ _ (ap idled (sym (source_is s.interface c.plan c.search.level _)))
 
   track_done : (c : Call) → Passes (checks s c) → Keeps awake es c (does s c)
   track_done (power_on i) p = record { same = refl; settled = tt }
@@ -340,18 +340,18 @@ interfaces s c = by_step (λ (m : Ran Outcome). m.answer.session.interface ≡ i
     refused (next out) k g = refl
     refused (feed xs room) k g = refl
 
-    continued : (c : Calibration) (out : List ℕ) → (continues c s out).answer.session.interface ≡ s.interface
-    continued Off out = refl
-    continued (On plan found) out = refl
+    continued : (c : Option Calibration) (out : List ℕ) → (continues c s out).answer.session.interface ≡ s.interface
+    continued None out = refl
+    continued (Some c) out = refl
 
     turned_so : (t : Turn) (plan : Plan) (w : Wake) (k : ℕ) (place : Place) → (turned t plan w s k place).session.interface ≡ s.interface
     turned_so (Goes found) plan w k place = refl
     turned_so (Names r n) plan w k place = refl
     turned_so (Fails j) plan w k place = refl
 
-    woken_so : (c : Calibration) (w : Wake) (k : ℕ) (place : Place) → (woken c w s k place).session.interface ≡ s.interface
-    woken_so Off w k place = refl
-    woken_so (On plan found) w k place = turned_so (heard found w) plan w k place
+    woken_so : (c : Option Calibration) (w : Wake) (k : ℕ) (place : Place) → (woken c w s k place).session.interface ≡ s.interface
+    woken_so None w k place = refl
+    woken_so (Some c) w k place = turned_so (heard c.search w) c.plan w k place
 
     read_so : (v : Verdict) (r : Fed) (a : Awaited) (selected : ℕ) → (outcome_by v r s a selected).session.interface ≡ s.interface
     read_so More r a selected = refl

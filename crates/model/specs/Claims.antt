@@ -1,15 +1,12 @@
 -- The statements of the promises, as named types. proofs/ proves each.
 -- Assumes nothing.
-use Rattle.std.specs.Prelude.{ℕ, suc, ◌+◌, ◌-◌, ◌*◌, ◌%◌, ◌≤◌, ◌<◌, ◌≡◌, true, false, ◌↔◌, ◌⊎◌, List, [], ◌∷◌, ◌++◌, length, drop}
+use Rattle.std.specs.Prelude.{ℕ, suc, ◌+◌, ◌-◌, ◌*◌, ◌%◌, ◌≤◌, ◌<◌, ◌≡◌, true, false, ◌↔◌, ◌⊎◌, List, [], ◌∷◌, ◌++◌, length, drop, Err, Ok}
 use Rattle.model.specs.declared.Interface.{Interface}
 use Rattle.model.specs.declared.Refusal.{Refusal}
 use Rattle.model.specs.declared.Refusal.TheVariants.{Invalid}
 use Rattle.model.specs.declared.Settings.{Settings}
 use Rattle.model.specs.declared.Kind.TheVariants.{SendRecv, RdReg, WrReg}
 use Rattle.model.specs.declared.Frame.{Frame}
-use Rattle.model.specs.declared.Reading.{Reading}
-use Rattle.model.specs.declared.Reading.TheVariants.{Taken}
-use Rattle.model.specs.declared.Written.{Written}
 use Rattle.model.specs.declared.Awaited.{Awaited}
 use Rattle.model.specs.declared.Progress.{Progress}
 use Rattle.model.specs.declared.Verdict.{Verdict}
@@ -67,15 +64,15 @@ Sends =
 
 -- the reader takes back every frame of every allowed command, as that command
 abbrev pub TakesBack : Type 0
-TakesBack = (c : Command) → allowed c ≡ true → (f : Frame) × (read_command (frame c) ≡ Taken f) × (command_of (frame c) f ≡ c)
+TakesBack = (c : Command) → allowed c ≡ true → (f : Frame) × (read_command (frame c) ≡ Ok f) × (command_of (frame c) f ≡ c)
 
 -- whatever it takes is the frame of the allowed command that it names
 abbrev pub OnlyFrames : Type 0
-OnlyFrames = (xs : List ℕ) (f : Frame) → read_command xs ≡ Taken f → (allowed (command_of xs f) ≡ true) × (frame (command_of xs f) ≡ xs)
+OnlyFrames = (xs : List ℕ) (f : Frame) → read_command xs ≡ Ok f → (allowed (command_of xs f) ≡ true) × (frame (command_of xs f) ≡ xs)
 
 -- all else is refused with 2
 abbrev pub RefusesElse : Type 0
-RefusesElse = (xs : List ℕ) → ((c : Command) → allowed c ≡ true → frame c ≡ xs → ⊥) → read_command xs ≡ Reading.Refused Invalid
+RefusesElse = (xs : List ℕ) → ((c : Command) → allowed c ≡ true → frame c ≡ xs → ⊥) → read_command xs ≡ Err Invalid
 
 -- RdReg asks for the wake-up event register or for ARC_B, one byte of it, and for nothing else
 abbrev pub RegistersRead : Type 0
@@ -93,7 +90,7 @@ RegistersWritten = (xs : List ℕ) → (allowed (command WrReg xs) ≡ true) ↔
 
 -- a refused write leaves the output as it was
 abbrev pub WritesNothing : Type 0
-WritesNothing = (i : Interface) (t : Transfer) (out : List ℕ) (k : Refusal) → (write i t out).answer ≡ Written.Refused k → (write i t out).bytes ≡ out
+WritesNothing = (i : Interface) (t : Transfer) (out : List ℕ) (k : Refusal) → (write i t out).answer ≡ Err k → (write i t out).bytes ≡ out
 
 -- ---- demand 2: replies
 

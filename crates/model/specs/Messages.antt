@@ -1,12 +1,10 @@
 -- Document 003, chapters 3 and 4, and document 02, P1: the messages between a host and the DEMO_CR95HF board.
 -- Assumes nothing.
-use Rattle.std.specs.Prelude.{ℕ, ◌-◌, ◌*◌, ◌/◌, ◌%◌, ◌≤◌, ◌<◌, ◌≡◌, Bool, true, false, not, ◌&&◌, ◌||◌, ◌↔◌, List, [], ◌∷◌, ◌++◌, ltb, leb, eqb, length, drop, get_or}
+use Rattle.std.specs.Prelude.{ℕ, ◌-◌, ◌*◌, ◌/◌, ◌%◌, ◌≤◌, ◌<◌, ◌≡◌, Bool, true, false, not, ◌&&◌, ◌||◌, ◌↔◌, List, [], ◌∷◌, ◌++◌, ltb, leb, eqb, length, drop, get_or, Err, None, Ok, Option, Result, Some}
 use Rattle.model.specs.declared.Refusal.{Refusal}
 use Rattle.model.specs.declared.Refusal.TheVariants.{Short, Invalid}
 use Rattle.words.specs.declared.Part.{Part}
 use Rattle.model.specs.declared.Kind.{Kind}
-use Rattle.model.specs.declared.Written.{Written}
-use Rattle.model.specs.declared.Written.TheVariants.{Sent}
 use Rattle.model.specs.declared.Awaited.{Awaited}
 use Rattle.model.specs.declared.End.{End}
 use Rattle.model.specs.declared.Verdict.{Verdict}
@@ -18,12 +16,6 @@ use Rattle.model.specs.declared.Family.TheVariants.{Chip, Board}
 use Rattle.model.specs.declared.Contents.{Contents}
 use Rattle.model.specs.declared.Contents.TheVariants.{Bytes, Level, Tags}
 use Rattle.model.specs.declared.MessageRow.{MessageRow}
-use Rattle.model.specs.declared.Named.{Named}
-use Rattle.model.specs.declared.Named.TheVariants.{Known, Unknown}
-use Rattle.model.specs.declared.CommandRead.{CommandRead}
-use Rattle.model.specs.declared.CommandRead.TheVariants.{Taken}
-use Rattle.model.specs.declared.AnswerRead.{AnswerRead}
-use Rattle.model.specs.declared.AnswerRead.TheVariants.{Carries, BoardError, ChipError}
 use Rattle.words.specs.Words.{pick, within, over}
 use Rattle.words.specs.Words.{Bytes as AllBytes}
 use Rattle.words.specs.Contract.{Ran, Is, OneAnswer, OneOutcome}
@@ -32,6 +24,8 @@ use Rattle.model.specs.Checks.{Check, ◌when◌, judged}
 use Rattle.model.specs.Frames.{command, framed, frame, part}
 use Rattle.model.specs.Frames.{row as commandRow}
 use Rattle.model.specs.Replies.{Reply, reply}
+use Rattle.model.specs.declared.AnswerError.TheVariants.{BoardError, ChipError}
+use Rattle.model.specs.declared.AnswerError.{AnswerError}
 
 -- ---- THE TABLE OF MESSAGES
 
@@ -69,11 +63,11 @@ abbrev pub messages : List Message
 messages = Idn ∷ GetFirmwareVersion ∷ Inventory ∷ GoToTagDetectingState ∷ IsWakeUp ∷ CalibrateTagDetecting ∷ []
 
 -- the first of some that has a code
-abbrev pub found_in : ℕ → List Message → Named
-found_in code [] = Unknown
-found_in code (m ∷ ms) = pick (eqb code (row m).code) (Known m) (found_in code ms)
+abbrev pub found_in : ℕ → List Message → Option Message
+found_in code [] = None
+found_in code (m ∷ ms) = pick (eqb code (row m).code) (Some m) (found_in code ms)
 
-abbrev pub named : ℕ → Named
+abbrev pub named : ℕ → Option Message
 named code = found_in code messages
 
 -- the first byte: 01 is a chip's command, 02 a board's
@@ -131,17 +125,17 @@ abbrev pub writing : Bool → List ℕ → List ℕ → List Check
 writing fit xs out = Invalid when not fit ∷ Short when ltb (length out) (length xs) ∷ []
 
 -- the bytes stand at the front of the output, which keeps what it held past them
-abbrev pub write : Bool → List ℕ → List ℕ → Ran Written
+abbrev pub write : Bool → List ℕ → List ℕ → Ran (Result ℕ Refusal)
 write fit xs out =
-    judged (writing fit xs out) (λ k. record { answer = Written.Refused k; bytes = out }) (record { answer = Sent (length xs); bytes = over xs out })
+    judged (writing fit xs out) (λ k. record { answer = Err k; bytes = out }) (record { answer = Ok (length xs); bytes = over xs out })
 
-abbrev pub write_command : Message → List ℕ → List ℕ → Ran Written
+abbrev pub write_command : Message → List ℕ → List ℕ → Ran (Result ℕ Refusal)
 write_command m xs out = write (takes m xs) (asking m xs) out
 
-abbrev pub write_answer : Message → List ℕ → List ℕ → Ran Written
+abbrev pub write_answer : Message → List ℕ → List ℕ → Ran (Result ℕ Refusal)
 write_answer m xs out = write (carries (row m).contents xs) (answering m xs) out
 
-abbrev pub write_error : ℕ → List ℕ → Ran Written
+abbrev pub write_error : ℕ → List ℕ → Ran (Result ℕ Refusal)
 write_error code out = write (is_board_error code) (failing code) out
 
 -- ---- the reader of command messages
@@ -153,19 +147,19 @@ is_framed (code ∷ []) = false
 is_framed (code ∷ n ∷ xs) = eqb n (length xs)
 
 -- with the family and the data of its row
-abbrev pub taken : Named → ℕ → List ℕ → CommandRead
-taken Unknown family xs = CommandRead.Malformed
-taken (Known m) family xs =
-    pick (eqb family (family_byte (row m).family) && takes m xs) (Taken m (part 3 (length xs))) CommandRead.Malformed
+abbrev pub taken : Option Message → ℕ → List ℕ → Option (Message × Part)
+taken None family xs = None
+taken (Some m) family xs =
+    pick (eqb family (family_byte (row m).family) && takes m xs) (Some (m, part 3 (length xs))) None
 
-abbrev pub read_message : List ℕ → CommandRead
-read_message xs = pick (is_framed (drop 1 xs)) (taken (named (get_or xs 1 0)) (get_or xs 0 0) (drop 3 xs)) CommandRead.Malformed
+abbrev pub read_message : List ℕ → Option (Message × Part)
+read_message xs = pick (is_framed (drop 1 xs)) (taken (named (get_or xs 1 0)) (get_or xs 0 0) (drop 3 xs)) None
 
 -- ---- the reader of answers
 
 -- what is carried stands from an index on
-abbrev pub carried : Contents → ℕ → List ℕ → AnswerRead
-carried c start xs = pick (carries c xs) (Carries (part start (length xs))) AnswerRead.Malformed
+abbrev pub carried : Contents → ℕ → List ℕ → Result Part AnswerError
+carried c start xs = pick (carries c xs) (Ok (part start (length xs))) (Err AnswerError.Malformed)
 
 -- the number of tags, and the tags
 abbrev pub is_numbered : List ℕ → Bool
@@ -173,77 +167,77 @@ is_numbered [] = false
 is_numbered (k ∷ xs) = eqb k (length xs / tag_size)
 
 -- behind code and count
-abbrev pub opened : Contents → List ℕ → AnswerRead
+abbrev pub opened : Contents → List ℕ → Result Part AnswerError
 opened (Bytes n) xs = carried (Bytes n) 2 xs
 opened Level xs = carried Level 2 xs
-opened Tags xs = pick (is_numbered xs) (carried Tags 3 (drop 1 xs)) AnswerRead.Malformed
+opened Tags xs = pick (is_numbered xs) (carried Tags 3 (drop 1 xs)) (Err AnswerError.Malformed)
 
 -- the answer to a command of the board's
-abbrev pub read_carried : MessageRow → List ℕ → AnswerRead
-read_carried r xs = pick (is_framed xs && eqb (get_or xs 0 0) r.response) (opened r.contents (drop 2 xs)) AnswerRead.Malformed
+abbrev pub read_carried : MessageRow → List ℕ → Result Part AnswerError
+read_carried r xs = pick (is_framed xs && eqb (get_or xs 0 0) r.response) (opened r.contents (drop 2 xs)) (Err AnswerError.Malformed)
 
 -- a command of the chip's, as its reply is awaited
 abbrev pub awaited_of : Kind → Awaited
 awaited_of kind = record { kind = kind; first = 0 }
 
 -- a reply of n bytes that ended so: the data are what follows the second
-abbrev pub by_end : End → ℕ → AnswerRead
-by_end End.Good n = Carries (part 2 (n - 2))
-by_end (End.Woken w) n = Carries (part 2 (n - 2))
-by_end (End.Error code) n = ChipError code
-by_end (End.Malformed place b) n = AnswerRead.Malformed
+abbrev pub by_end : End → ℕ → Result Part AnswerError
+by_end End.Good n = Ok (part 2 (n - 2))
+by_end (End.Woken w) n = Ok (part 2 (n - 2))
+by_end (End.Error code) n = Err (ChipError code)
+by_end (End.Malformed place b) n = Err AnswerError.Malformed
 
 -- it has to fill the answer
-abbrev pub by_verdict : Verdict → ℕ → ℕ → AnswerRead
-by_verdict More used n = AnswerRead.Malformed
-by_verdict (Ended e) used n = pick (eqb used n) (by_end e n) AnswerRead.Malformed
-by_verdict NoRoom used n = AnswerRead.Malformed
+abbrev pub by_verdict : Verdict → ℕ → ℕ → Result Part AnswerError
+by_verdict More used n = Err AnswerError.Malformed
+by_verdict (Ended e) used n = pick (eqb used n) (by_end e n) (Err AnswerError.Malformed)
+by_verdict NoRoom used n = Err AnswerError.Malformed
 
 -- the answer to a command of the chip's: its own reply, as the reply table has it
-abbrev pub read_reply : Kind → List ℕ → AnswerRead
+abbrev pub read_reply : Kind → List ℕ → Result Part AnswerError
 read_reply kind xs = by_verdict (reply (awaited_of kind) xs).verdict (reply (awaited_of kind) xs).used (length xs)
 
-abbrev pub read_good : Family → MessageRow → List ℕ → AnswerRead
+abbrev pub read_good : Family → MessageRow → List ℕ → Result Part AnswerError
 read_good (Chip kind) r xs = read_reply kind xs
 read_good Board r xs = read_carried r xs
 
 -- an error code of the MCU's, and no data
-abbrev pub read_error : List ℕ → AnswerRead
-read_error xs = pick (is_framed xs && eqb (length xs) 2) (BoardError (get_or xs 0 0)) AnswerRead.Malformed
+abbrev pub read_error : List ℕ → Result Part AnswerError
+read_error xs = pick (is_framed xs && eqb (length xs) 2) (Err (BoardError (get_or xs 0 0))) (Err AnswerError.Malformed)
 
 -- an answer that begins with one of its codes is the MCU's, whatever the command
-abbrev pub read_answer : Message → List ℕ → AnswerRead
+abbrev pub read_answer : Message → List ℕ → Result Part AnswerError
 read_answer m xs = pick (is_board_error (get_or xs 0 0)) (read_error xs) (read_good (row m).family (row m) xs)
 
 -- ---- refusal 5: a message that the chapters do not give
 
-abbrev pub command_number : CommandRead → Number
-command_number (Taken m p) = none
-command_number CommandRead.Malformed = number 5
+abbrev pub command_number : Option (Message × Part) → Number
+command_number (Some (m, p)) = none
+command_number None = number 5
 
-abbrev pub answer_number : AnswerRead → Number
-answer_number (Carries p) = none
-answer_number (BoardError code) = none
-answer_number (ChipError code) = none
-answer_number AnswerRead.Malformed = number 5
+abbrev pub answer_number : Result Part AnswerError → Number
+answer_number (Ok p) = none
+answer_number (Err (BoardError code)) = none
+answer_number (Err (ChipError code)) = none
+answer_number (Err AnswerError.Malformed) = number 5
 
 -- ---- the contracts
 
 -- a writer may answer r and leave exit in an output that held out
-abbrev pub WritesCommand : Message → List ℕ → List ℕ → Written → List ℕ → Type 0
+abbrev pub WritesCommand : Message → List ℕ → List ℕ → Result ℕ Refusal → List ℕ → Type 0
 WritesCommand m xs out r exit = Is (write_command m xs out) r exit
 
-abbrev pub WritesAnswer : Message → List ℕ → List ℕ → Written → List ℕ → Type 0
+abbrev pub WritesAnswer : Message → List ℕ → List ℕ → Result ℕ Refusal → List ℕ → Type 0
 WritesAnswer m xs out r exit = Is (write_answer m xs out) r exit
 
-abbrev pub WritesError : ℕ → List ℕ → Written → List ℕ → Type 0
+abbrev pub WritesError : ℕ → List ℕ → Result ℕ Refusal → List ℕ → Type 0
 WritesError code out r exit = Is (write_error code out) r exit
 
 -- a reader may answer r to the bytes xs
-abbrev pub ReadsMessage : List ℕ → CommandRead → Type 0
+abbrev pub ReadsMessage : List ℕ → Option (Message × Part) → Type 0
 ReadsMessage xs r = r ≡ read_message xs
 
-abbrev pub ReadsAnswer : Message → List ℕ → AnswerRead → Type 0
+abbrev pub ReadsAnswer : Message → List ℕ → Result Part AnswerError → Type 0
 ReadsAnswer m xs r = r ≡ read_answer m xs
 
 -- ---- WHAT IS PROMISED
@@ -259,11 +253,11 @@ pub record OfBytes : Type 0 where
   pub errors : (code : ℕ) → is_board_error code ≡ true → AllBytes (failing code)
 
 -- the order of a writer is 2, 1; a refusal writes nothing, and output past the message keeps what it held
-pub record Orderly (fit : Bool) (xs out : List ℕ) (ran : Ran Written) : Type 0 where
-  pub invalid : (ran.answer ≡ Written.Refused Invalid) ↔ (fit ≡ false)
-  pub short : (ran.answer ≡ Written.Refused Short) ↔ ((fit ≡ true) × (length out < length xs))
-  pub sent : fit ≡ true → length xs ≤ length out → ran ≡ record { answer = Sent (length xs); bytes = xs ++ drop (length xs) out }
-  pub unwritten : (k : Refusal) → ran.answer ≡ Written.Refused k → ran.bytes ≡ out
+pub record Orderly (fit : Bool) (xs out : List ℕ) (ran : Ran (Result ℕ Refusal)) : Type 0 where
+  pub invalid : (ran.answer ≡ Err Invalid) ↔ (fit ≡ false)
+  pub short : (ran.answer ≡ Err Short) ↔ ((fit ≡ true) × (length out < length xs))
+  pub sent : fit ≡ true → length xs ≤ length out → ran ≡ record { answer = Ok (length xs); bytes = xs ++ drop (length xs) out }
+  pub unwritten : (k : Refusal) → ran.answer ≡ Err k → ran.bytes ≡ out
 
 abbrev pub InOrder : Type 0
 InOrder = (fit : Bool) (xs out : List ℕ) → Orderly fit xs out (write fit xs out)
@@ -272,47 +266,47 @@ InOrder = (fit : Bool) (xs out : List ℕ) → Orderly fit xs out (write fit xs 
 abbrev pub CommandsBack : Type 0
 CommandsBack =
     (m : Message) (xs : List ℕ) → takes m xs ≡ true →
-    (p : Part) × (read_message (asking m xs) ≡ Taken m p) × (within (asking m xs) p ≡ xs)
+    (p : Part) × (read_message (asking m xs) ≡ Some (m, p)) × (within (asking m xs) p ≡ xs)
 
 -- whatever is read is the command message that it names, byte for byte
 abbrev pub OnlyCommands : Type 0
 OnlyCommands =
-    (xs : List ℕ) (m : Message) (p : Part) → read_message xs ≡ Taken m p → (takes m (within xs p) ≡ true) × (asking m (within xs p) ≡ xs)
+    (xs : List ℕ) (m : Message) (p : Part) → read_message xs ≡ Some (m, p) → (takes m (within xs p) ≡ true) × (asking m (within xs p) ≡ xs)
 
 -- all else is malformed
 abbrev pub CommandsElse : Type 0
 CommandsElse =
-    (xs : List ℕ) → ((m : Message) (ys : List ℕ) → takes m ys ≡ true → asking m ys ≡ xs → ⊥) → read_message xs ≡ CommandRead.Malformed
+    (xs : List ℕ) → ((m : Message) (ys : List ℕ) → takes m ys ≡ true → asking m ys ≡ xs → ⊥) → read_message xs ≡ None
 
 -- an answer is read back as itself: what it carries, or an error code of the MCU's
 abbrev pub AnswersBack : Type 0
 AnswersBack =
     (m : Message) (xs : List ℕ) → carries (row m).contents xs ≡ true →
-    (p : Part) × (read_answer m (answering m xs) ≡ Carries p) × (within (answering m xs) p ≡ xs)
+    (p : Part) × (read_answer m (answering m xs) ≡ Ok p) × (within (answering m xs) p ≡ xs)
 
 abbrev pub ErrorsBack : Type 0
-ErrorsBack = (m : Message) (code : ℕ) → is_board_error code ≡ true → read_answer m (failing code) ≡ BoardError code
+ErrorsBack = (m : Message) (code : ℕ) → is_board_error code ≡ true → read_answer m (failing code) ≡ Err (BoardError code)
 
 -- and so is the chip's error to a command of its own, by the reply table
 abbrev pub ChipErrorsBack : Type 0
 ChipErrorsBack =
     (m : Message) (kind : Kind) (code : ℕ) (xs : List ℕ) → (row m).family ≡ Chip kind → Reply (awaited_of kind) xs (End.Error code) []
-    → read_answer m xs ≡ ChipError code
+    → read_answer m xs ≡ Err (ChipError code)
 
 -- the bytes are the answer that is named, byte for byte
-abbrev pub IsAnswer : Message → List ℕ → AnswerRead → Type 0
-IsAnswer m xs (Carries p) = (carries (row m).contents (within xs p) ≡ true) × (answering m (within xs p) ≡ xs)
-IsAnswer m xs (BoardError code) = (is_board_error code ≡ true) × (failing code ≡ xs)
-IsAnswer m xs (ChipError code) = (kind : Kind) × ((row m).family ≡ Chip kind) × Reply (awaited_of kind) xs (End.Error code) []
-IsAnswer m xs AnswerRead.Malformed = ⊥
+abbrev pub IsAnswer : Message → List ℕ → Result Part AnswerError → Type 0
+IsAnswer m xs (Ok p) = (carries (row m).contents (within xs p) ≡ true) × (answering m (within xs p) ≡ xs)
+IsAnswer m xs (Err (BoardError code)) = (is_board_error code ≡ true) × (failing code ≡ xs)
+IsAnswer m xs (Err (ChipError code)) = (kind : Kind) × ((row m).family ≡ Chip kind) × Reply (awaited_of kind) xs (End.Error code) []
+IsAnswer m xs (Err AnswerError.Malformed) = ⊥
 
 -- whatever is read is that
 abbrev pub OnlyAnswers : Type 0
-OnlyAnswers = (m : Message) (xs : List ℕ) → (read_answer m xs ≡ AnswerRead.Malformed → ⊥) → IsAnswer m xs (read_answer m xs)
+OnlyAnswers = (m : Message) (xs : List ℕ) → (read_answer m xs ≡ (Err AnswerError.Malformed) → ⊥) → IsAnswer m xs (read_answer m xs)
 
 -- all else is malformed
 abbrev pub AnswersElse : Type 0
-AnswersElse = (m : Message) (xs : List ℕ) → ((r : AnswerRead) → IsAnswer m xs r → ⊥) → read_answer m xs ≡ AnswerRead.Malformed
+AnswersElse = (m : Message) (xs : List ℕ) → ((r : Result Part AnswerError) → IsAnswer m xs r → ⊥) → read_answer m xs ≡ Err AnswerError.Malformed
 
 -- any two outcomes that a contract allows coincide
 pub record OneMessage : Type 0 where

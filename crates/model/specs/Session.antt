@@ -1,6 +1,6 @@
 -- Document 01, "The chip as we track it" and "Refusals by number": what each call does to a session.
 -- Assumes nothing.
-use Rattle.std.specs.Prelude.{ℕ, ◌+◌, ◌≡◌, Bool, true, false, not, ◌&&◌, ◌||◌, List, [], ◌∷◌, ◌++◌, ltb, leb, eqb, length, get_or}
+use Rattle.std.specs.Prelude.{ℕ, ◌+◌, ◌≡◌, Bool, true, false, not, ◌&&◌, ◌||◌, List, [], ◌∷◌, ◌++◌, ltb, leb, eqb, length, get_or, Option, Some, None}
 use Rattle.model.specs.declared.Interface.{Interface}
 use Rattle.model.specs.declared.Interface.TheVariants.{Uart}
 use Rattle.model.specs.declared.Refusal.{Refusal}
@@ -16,7 +16,6 @@ use Rattle.model.specs.declared.Fed.{Fed}
 use Rattle.model.specs.declared.Plan.{Plan}
 use Rattle.model.specs.declared.Search.{Search}
 use Rattle.model.specs.declared.Calibration.{Calibration}
-use Rattle.model.specs.declared.Calibration.TheVariants.{Off, On}
 use Rattle.model.specs.declared.Turn.{Turn}
 use Rattle.model.specs.declared.Turn.TheVariants.{Goes, Names, Fails}
 use Rattle.model.specs.declared.State.{State}
@@ -29,24 +28,24 @@ use Rattle.words.specs.Contract.{Ran, Is}
 use Rattle.model.specs.Checks.{Check, ◌when◌, judged}
 use Rattle.model.specs.Frames.{Command, is, idle, Transfer, send, bytes, writing}
 use Rattle.model.specs.Replies.{least_room, begun, fed_from}
-use Rattle.model.specs.Calibration.{settings_at, search, most_commands, is_tag, heard}
+use Rattle.model.specs.Calibration.{settings_at, search, most_commands, is_tag, heard, searching}
 
 -- ---- sessions
 
-abbrev pub made : Interface → State → Calibration → Session
+abbrev pub made : Interface → State → Option Calibration → Session
 made i state c = record { interface = i; state = state; calibration = c }
 
 -- the same session in another state, with a calibration or none
-abbrev pub into : Session → State → Calibration → Session
+abbrev pub into : Session → State → Option Calibration → Session
 into s state c = record { interface = s.interface; state = state; calibration = c }
 
 -- power-on leads to Power-up from any state, and drops an awaited reply and a calibration
 abbrev pub powered : Interface → Session
-powered i = made i PowerUp Off
+powered i = made i PowerUp None
 
 -- the record before the first power-on
 abbrev pub unpowered : Session
-unpowered = made Uart Lost Off
+unpowered = made Uart Lost None
 
 -- an IRQ_IN pulse takes Power-up to Ready and changes no other state
 abbrev pub pulsed : State → State
@@ -86,9 +85,9 @@ is_some (some progress selected) = true
 abbrev pub is_waiting : State → Bool
 is_waiting state = is_some (awaits state)
 
-abbrev pub is_running : Calibration → Bool
-is_running Off = false
-is_running (On plan found) = true
+abbrev pub is_running : Option Calibration → Bool
+is_running None = false
+is_running (Some c) = true
 
 -- a reply is awaited or a calibration runs
 abbrev pub busy : Session → Bool
@@ -147,7 +146,7 @@ abbrev pub awaited_of : Command → Awaited
 awaited_of c = record { kind = c.kind; first = get_or c.payload 0 0 }
 
 -- its reply is awaited
-abbrev pub awaiting : Session → Command → Calibration → Session
+abbrev pub awaiting : Session → Command → Option Calibration → Session
 awaiting s c calibration = into s (Waiting (begun (awaited_of c)) (protocol_of s.state)) calibration
 
 -- ---- a reply
@@ -165,30 +164,30 @@ abbrev pub after_error : Awaited → ℕ → State
 after_error a selected = pick (is a.kind Kind.ProtocolSelect) Ready (resting selected)
 
 -- k bytes of a piece were consumed, and the session goes on in a state, with a calibration or none
-abbrev pub ended : Session → State → Calibration → Answer → ℕ → Place → Outcome
+abbrev pub ended : Session → State → Option Calibration → Answer → ℕ → Place → Outcome
 ended s state c answer k place = record { session = into s state c; answer = answer; used = k; place = place }
 
 -- where an answer leads a calibration; a good Idle gives Ready, the selection forgotten
 abbrev pub turned : Turn → Plan → Wake → Session → ℕ → Place → Outcome
-turned (Goes found) plan w s k place = ended s Ready (On plan found) (Answer.Woken w) k place
-turned (Names reference commands) plan w s k place = ended s Ready Off (Answer.Reference reference commands) k place
-turned (Fails refusal) plan w s k place = ended s Ready Off (Answer.Refused refusal) k place
+turned (Goes found) plan w s k place = ended s Ready (searching plan found) (Answer.Woken w) k place
+turned (Names reference commands) plan w s k place = ended s Ready None (Answer.Reference reference commands) k place
+turned (Fails refusal) plan w s k place = ended s Ready None (Answer.Refused refusal) k place
 
-abbrev pub woken : Calibration → Wake → Session → ℕ → Place → Outcome
-woken Off w s k place = ended s Ready Off (Answer.Woken w) k place
-woken (On plan found) w s k place = turned (heard found w) plan w s k place
+abbrev pub woken : Option Calibration → Wake → Session → ℕ → Place → Outcome
+woken None w s k place = ended s Ready None (Answer.Woken w) k place
+woken (Some c) w s k place = turned (heard c.search w) c.plan w s k place
 
 -- 7 outside calibration, 12 in it
-abbrev pub error_by : Calibration → ℕ → Refusal
-error_by Off code = Refusal.ChipError code
-error_by (On plan found) code = Refusal.CalibrationError code found.commands
+abbrev pub error_by : Option Calibration → ℕ → Refusal
+error_by None code = Refusal.ChipError code
+error_by (Some c) code = Refusal.CalibrationError code c.search.commands
 
 -- a reply ended; of a record that no call made, a good reply to another command than Idle leaves the calibration alone
 abbrev pub ended_by : End → Session → Awaited → ℕ → ℕ → Place → Outcome
 ended_by End.Good s a selected k place = ended s (after_good a selected) s.calibration Answer.Good k place
 ended_by (End.Woken w) s a selected k place = woken s.calibration w s k place
-ended_by (End.Error code) s a selected k place = ended s (after_error a selected) Off (Answer.Refused (error_by s.calibration code)) k place
-ended_by (End.Malformed at b) s a selected k place = ended s Lost Off (Answer.Refused Refusal.Malformed) k place
+ended_by (End.Error code) s a selected k place = ended s (after_error a selected) None (Answer.Refused (error_by s.calibration code)) k place
+ended_by (End.Malformed at b) s a selected k place = ended s Lost None (Answer.Refused Refusal.Malformed) k place
 
 -- what a piece that was read does to a session that waits
 abbrev pub outcome_by : Verdict → Fed → Session → Awaited → ℕ → Outcome
@@ -243,13 +242,13 @@ abbrev pub starting : Session → Plan → List Check
 starting s plan = Refusal.Busy when busy s ∷ Refusal.Unready when is_off s.state ∷ Refusal.Invalid when ltb 3 plan.prescaler ∷ []
 
 -- the next command of a calibration: 4, before it is written; outside a calibration none is due
-abbrev pub continuing : Calibration → State → List Check
-continuing Off state = Refusal.Busy when true ∷ []
-continuing (On plan found) state = Refusal.Busy when not (is_due state found) ∷ []
+abbrev pub continuing : Option Calibration → State → List Check
+continuing None state = Refusal.Busy when true ∷ []
+continuing (Some c) state = Refusal.Busy when not (is_due state c.search) ∷ []
 
-abbrev pub writing_next : Calibration → Session → List ℕ → List Check
-writing_next Off s out = []
-writing_next (On plan found) s out = writing s.interface (send (idle (settings_at plan found.level))) out
+abbrev pub writing_next : Option Calibration → Session → List ℕ → List Check
+writing_next None s out = []
+writing_next (Some c) s out = writing s.interface (send (idle (settings_at c.plan c.search.level))) out
 
 -- a piece that is not empty: 6, room, before its bytes are read
 abbrev pub feeding : State → List ℕ → List Check
@@ -280,15 +279,15 @@ gives s t out after = says after (Answer.Sent (length (bytes s.interface t))) (o
 -- a command of a calibration
 abbrev pub tests : Session → Plan → Search → List ℕ → Ran Outcome
 tests s plan found out =
-    gives s (send (idle (settings_at plan found.level))) out (awaiting s (idle (settings_at plan found.level)) (On plan found))
+    gives s (send (idle (settings_at plan found.level))) out (awaiting s (idle (settings_at plan found.level)) (searching plan found))
 
 -- a row holds always, and nothing is left to be done
 abbrev pub nothing : Session → List ℕ → Ran Outcome
 nothing s buffer = says s Answer.Done buffer
 
-abbrev pub continues : Calibration → Session → List ℕ → Ran Outcome
-continues Off s out = nothing s out
-continues (On plan found) s out = tests s plan (search (found.commands + 1) found.level) out
+abbrev pub continues : Option Calibration → Session → List ℕ → Ran Outcome
+continues None s out = nothing s out
+continues (Some c) s out = tests s c.plan (search (c.search.commands + 1) c.search.level) out
 
 abbrev pub takes : Awaits → Session → List ℕ → List ℕ → Ran Outcome
 takes none s piece room = nothing s room
@@ -314,26 +313,26 @@ step s c = judged (checks s c) (λ k. refuse s k (lent c)) (does s c)
 -- ---- the refusals that come out of a reply's bytes
 
 -- calibration: level FC, the second command's, answered tag (9); the first command got timeout (8); the eighth tested level 00 and got timeout (10)
-abbrev pub wake_checks : Calibration → Wake → List Check
-wake_checks Off w = []
-wake_checks (On plan found) w =
-    Refusal.HighestTag found.commands when (is_tag w && eqb found.commands 2)
-    ∷ Refusal.LowestTimeout found.commands when (not (is_tag w) && ltb found.commands 2)
-    ∷ Refusal.NoLevel found.commands when (not (is_tag w) && leb most_commands found.commands && ltb found.level 4) ∷ []
+abbrev pub wake_checks : Option Calibration → Wake → List Check
+wake_checks None w = []
+wake_checks (Some c) w =
+    Refusal.HighestTag c.search.commands when (is_tag w && eqb c.search.commands 2)
+    ∷ Refusal.LowestTimeout c.search.commands when (not (is_tag w) && ltb c.search.commands 2)
+    ∷ Refusal.NoLevel c.search.commands when (not (is_tag w) && leb most_commands c.search.commands && ltb c.search.level 4) ∷ []
 
 -- the chip answered with an error code outside calibration (7) and in it (12); a reply is malformed (5)
-abbrev pub end_checks : End → Calibration → List Check
+abbrev pub end_checks : End → Option Calibration → List Check
 end_checks End.Good c = []
 end_checks (End.Woken w) c = wake_checks c w
 end_checks (End.Error code) c = error_by c code when true ∷ []
 end_checks (End.Malformed at b) c = Refusal.Malformed when true ∷ []
 
-abbrev pub reply_checks : Verdict → Calibration → List Check
+abbrev pub reply_checks : Verdict → Option Calibration → List Check
 reply_checks Verdict.More c = []
 reply_checks (Verdict.Ended e) c = end_checks e c
 reply_checks Verdict.NoRoom c = []
 
-abbrev pub piece_checks : Awaits → Calibration → List ℕ → List ℕ → List Check
+abbrev pub piece_checks : Awaits → Option Calibration → List ℕ → List ℕ → List Check
 piece_checks none c piece room = []
 piece_checks (some p selected) c piece room = reply_checks (fed_from p.awaited p.phase piece room).answer.verdict c
 

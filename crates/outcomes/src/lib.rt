@@ -24,8 +24,7 @@ fn resting(protocol: u8) -> State
 fn after_good(awaited: Awaited, selected: u8) -> State
     ensures { result ≡ sessions.after_good awaited selected }
 {
-    let kind = awaited.kind;
-    if kinds::are_same(kind, Kind::ProtocolSelect) {
+    if kinds::are_same(awaited.kind, Kind::ProtocolSelect) {
         return resting(awaited.first);
     }
     resting(selected)
@@ -35,97 +34,85 @@ fn after_good(awaited: Awaited, selected: u8) -> State
 fn after_error(awaited: Awaited, selected: u8) -> State
     ensures { result ≡ sessions.after_error awaited selected }
 {
-    let kind = awaited.kind;
-    if kinds::are_same(kind, Kind::ProtocolSelect) {
+    if kinds::are_same(awaited.kind, Kind::ProtocolSelect) {
         return State::Ready; // the protocol that was asked for is not selected, nor the one before
     }
     resting(selected) // Idle keeps the selection
 }
 
-// The session goes on in a state, with a calibration or none.
+// The session goes on in a state, with a calibration or none, behind the bytes that were read and with the data that they have. What was read and
+// the session go apart, here and below, as in the definitions.
 fn ended(
+    fed: Fed,
     s: Session,
     state: State,
-    calibration: Calibration,
+    calibration: Option<Calibration>,
     answer: Answer,
-    used: usize,
-    place: Place,
 ) -> Outcome
-    ensures { result ≡ sessions.ended s state calibration answer used place }
+    ensures { result ≡ sessions.ended s state calibration answer fed.used fed.place }
 {
     Outcome {
         session: states::into(s, state, calibration),
         answer,
-        used,
-        place,
+        used: fed.used,
+        place: fed.place,
     }
 }
 
 // Where an answer leads a calibration.
-fn turned(turn: Turn, plan: Plan, wake: Wake, s: Session, used: usize, place: Place) -> Outcome
-    ensures { result ≡ sessions.turned turn plan wake s used place }
+fn turned(turn: Turn, plan: Plan, wake: Wake, fed: Fed, s: Session) -> Outcome
+    ensures { result ≡ sessions.turned turn plan wake s fed.used fed.place }
 {
     match turn {
         Turn::Goes(search) => ended(
+            fed,
             s,
             State::Ready,
-            Calibration::On { plan, search },
+            Some(Calibration { plan, search }),
             Answer::Woken { wake },
-            used,
-            place,
         ),
         Turn::Names {
             reference,
             commands,
         } => ended(
+            fed,
             s,
             State::Ready,
-            Calibration::Off,
+            None,
             Answer::Reference {
                 reference,
                 commands,
             },
-            used,
-            place,
         ),
-        Turn::Fails(refusal) => ended(
-            s,
-            State::Ready,
-            Calibration::Off,
-            Answer::Refused(refusal),
-            used,
-            place,
-        ),
+        Turn::Fails(refusal) => ended(fed, s, State::Ready, None, Answer::Refused(refusal)),
     }
 }
 
 // An Idle is over, outside a calibration or in one.
-fn woken(s: Session, wake: Wake, used: usize, place: Place) -> Outcome
-    ensures { result ≡ sessions.woken s.calibration wake s used place }
+fn woken(wake: Wake, fed: Fed, s: Session) -> Outcome
+    ensures { result ≡ sessions.woken s.calibration wake s fed.used fed.place }
 {
-    let calibration = s.calibration;
-    match calibration {
-        Calibration::Off => ended(
+    match s.calibration {
+        None => ended(
+            fed,
             s,
             State::Ready, // the selection is forgotten
-            Calibration::Off,
+            None,
             Answer::Woken { wake },
-            used,
-            place,
         ),
-        Calibration::On { plan, search } => {
-            turned(calibration::heard(search, wake), plan, wake, s, used, place)
+        Some(Calibration { plan, search }) => {
+            turned(calibration::heard(search, wake), plan, wake, fed, s)
         }
     }
 }
 
 // The chip's error: 7 outside calibration, 12 in it.
-fn error_by(calibration: Calibration, code: u8) -> Refusal
+fn error_by(calibration: Option<Calibration>, code: u8) -> Refusal
     ensures { result ≡ sessions.error_by calibration code }
 {
     match calibration {
-        Calibration::Off => Refusal::ChipError { code },
-        Calibration::On { plan: _, search } => Refusal::CalibrationError {
+        None => Refusal::ChipError { code },
+        Some(Calibration { plan: _, search }) => Refusal::CalibrationError {
             code,
             commands: search.commands,
         },
@@ -133,42 +120,31 @@ fn error_by(calibration: Calibration, code: u8) -> Refusal
 }
 
 // The reply is over.
-fn ended_by(
-    end: End,
-    s: Session,
-    awaited: Awaited,
-    selected: u8,
-    used: usize,
-    place: Place,
-) -> Outcome
-    ensures { result ≡ sessions.ended_by end s awaited selected used place }
+fn ended_by(end: End, fed: Fed, s: Session, awaited: Awaited, selected: u8) -> Outcome
+    ensures { result ≡ sessions.ended_by end s awaited selected fed.used fed.place }
 {
-    let calibration = s.calibration;
     match end {
         End::Good => ended(
+            fed,
             s,
             after_good(awaited, selected),
-            calibration,
+            s.calibration,
             Answer::Good,
-            used,
-            place,
         ),
-        End::Woken { wake } => woken(s, wake, used, place),
+        End::Woken { wake } => woken(wake, fed, s),
         End::Error { code } => ended(
+            fed,
             s,
             after_error(awaited, selected),
-            Calibration::Off,
-            Answer::Refused(error_by(calibration, code)),
-            used,
-            place,
+            None,
+            Answer::Refused(error_by(s.calibration, code)),
         ),
-        End::Malformed { place: _, byte: _ } => ended(
+        End::Malformed { .. } => ended(
+            fed,
             s,
             State::Lost,
-            Calibration::Off,
+            None,
             Answer::Refused(Refusal::Malformed),
-            used,
-            place,
         ),
     }
 }
@@ -177,21 +153,19 @@ fn ended_by(
 pub fn outcome_of(fed: Fed, s: Session, awaited: Awaited, selected: u8) -> Outcome
     ensures { result ≡ sessions.outcome_by fed.verdict fed s awaited selected }
 {
-    let calibration = s.calibration;
     let progress = fed.progress;
-    let place = fed.place;
-    let used = fed.used;
-    let verdict = fed.verdict;
-    match verdict {
-        Verdict::More => ended(
-            s,
-            State::Waiting { progress, selected },
-            calibration,
-            Answer::More,
-            used,
-            Place::Nowhere,
-        ),
-        Verdict::Ended(end) => ended_by(end, s, awaited, selected, used, place),
+    match fed.verdict {
+        Verdict::More => Outcome {
+            place: Place::Nowhere,
+            ..ended(
+                fed,
+                s,
+                State::Waiting { progress, selected },
+                s.calibration,
+                Answer::More,
+            )
+        },
+        Verdict::Ended(end) => ended_by(end, fed, s, awaited, selected),
         Verdict::NoRoom => sending::refused(s, Refusal::Short),
     }
 }

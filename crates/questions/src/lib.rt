@@ -4,24 +4,26 @@
 
 ghost use Rattle.std.specs.Prelude.{◌≡◌, [], ◌∷◌};
 ghost use Rattle.calls.specs.Calls.{given_for};
-ghost use Rattle.text.specs.Writing.{Puts, hexes};
+ghost use Rattle.text.specs.Adding.{Adds};
+ghost use Rattle.text.specs.Writing.{hexes};
 ghost use Rattle.stakes.specs.Stakes.{written};
 ghost use Rattle.questions.specs.Questions.{yes_or_no, named, stake_text, question_text};
 
 use calls::Question;
-use model::{Guard, Kind, Reading};
-use stakes::{Crc, Stake, StakeRead, Uid};
+use model::{Band, Kind};
+use stakes::{Crc, Stake, Uid};
+use text::Text;
 
-fn band(given: &[u8], text: &mut [u8]) -> usize
-    ensures { Puts text.old 0 (question_text Question.Band given.now) result text.new }
+fn band(given: &[u8], text: &mut Text)
+    ensures { Adds text.old (question_text Question.Band given.now) text.new }
 {
     match calibration::guard_band(lines::at(given, 0)) {
-        Guard::Band { low, high } => {
-            let next = text::put(text, 0, b"band");
-            let next = text::put_byte(text, next, low);
-            text::put_byte(text, next, high)
+        Some(Band { low, high }) => {
+            text.put(b"band");
+            text.put_byte(low);
+            text.put_byte(high);
         }
-        Guard::NoBand => refusals::put_refused(text, 11),
+        None => refusals::put_refused(text, 11),
     }
 }
 
@@ -36,55 +38,51 @@ fn given_for(kind: Kind, payload: &[u8]) -> &[u8]
 }
 
 // The call that would send a frame: its data stand behind code and length.
-fn command(given: &[u8], text: &mut [u8]) -> usize
-    ensures { Puts text.old 0 (question_text Question.Command given.now) result text.new }
+fn command(given: &[u8], text: &mut Text)
+    ensures { Adds text.old (question_text Question.Command given.now) text.new }
 {
     match commands::read_command(given) {
-        Reading::Taken(frame) => {
-            let kind = frame.kind;
-            let next = calls::put_kind(text, 0, kind);
-            text::put_bytes(text, next, given_for(kind, lines::after(given, 2)))
+        Ok(frame) => {
+            calls::put_kind(text, frame.kind);
+            text.put_bytes(given_for(frame.kind, lines::after(given, 2)));
         }
-        Reading::Refused(refusal) => refusals::put_refusal(text, refusal),
+        Err(refusal) => refusals::put_refusal(text, refusal),
     }
 }
 
-fn put_yes_or_no(text: &mut [u8], at: usize, holds: bool) -> usize
-    ensures { Puts text.old at (yes_or_no holds ∷ []) result text.new }
+fn put_yes_or_no(text: &mut Text, holds: bool)
+    ensures { Adds text.old (yes_or_no holds ∷ []) text.new }
 {
-    if holds {
-        return text::put(text, at, b" yes");
-    }
-    text::put(text, at, b" no")
+    text.put(if holds { b" yes" } else { b" no" });
 }
 
-fn flags(given: &[u8], text: &mut [u8]) -> usize
-    ensures { Puts text.old 0 (question_text Question.Flags given.now) result text.new }
+fn flags(given: &[u8], text: &mut Text)
+    ensures { Adds text.old (question_text Question.Flags given.now) text.new }
 {
     let flags = spi::flags(lines::at(given, 0));
-    let next = text::put(text, 0, b"read");
-    let next = put_yes_or_no(text, next, flags.read);
-    let next = text::put(text, next, b" send");
-    put_yes_or_no(text, next, flags.send)
+    text.put(b"read");
+    put_yes_or_no(text, flags.read);
+    text.put(b" send");
+    put_yes_or_no(text, flags.send);
 }
 
 // A name, and bytes behind it.
-fn put_named(text: &mut [u8], at: usize, name: &[u8], bytes: &[u8]) -> usize
-    ensures { Puts text.old at (name.now ∷ hexes bytes.now) result text.new }
+fn put_named(text: &mut Text, name: &[u8], bytes: &[u8])
+    ensures { Adds text.old (name.now ∷ hexes bytes.now) text.new }
 {
-    let next = text::put(text, at, name);
-    text::put_bytes(text, next, bytes)
+    text.put(name);
+    text.put_bytes(bytes);
 }
 
-fn received(given: &[u8], text: &mut [u8]) -> usize
-    ensures { Puts text.old 0 (question_text Question.Received given.now) result text.new }
+fn received(given: &[u8], text: &mut Text)
+    ensures { Adds text.old (question_text Question.Received given.now) text.new }
 {
-    put_named(text, 0, b"bytes", spi::received(given))
+    put_named(text, b"bytes", spi::received(given));
 }
 
 // A UID as people write it.
-fn put_uid(text: &mut [u8], at: usize, uid: Uid) -> usize
-    ensures { Puts text.old at (named " uid" (written uid)) result text.new }
+fn put_uid(text: &mut Text, uid: Uid)
+    ensures { Adds text.old (named " uid" (written uid)) text.new }
 {
     let bytes = [
         uid.first,
@@ -96,41 +94,39 @@ fn put_uid(text: &mut [u8], at: usize, uid: Uid) -> usize
         uid.seventh,
         uid.eighth,
     ];
-    put_named(text, at, b" uid", &bytes)
+    put_named(text, b" uid", &bytes);
 }
 
 // The low byte first, as it is sent.
-fn put_crc(text: &mut [u8], at: usize, crc: Crc) -> usize
-    ensures { Puts text.old at (named " crc" (crc.low ∷ crc.high ∷ [])) result text.new }
+fn put_crc(text: &mut Text, crc: Crc)
+    ensures { Adds text.old (named " crc" (crc.low ∷ crc.high ∷ [])) text.new }
 {
     let bytes = [crc.low, crc.high];
-    put_named(text, at, b" crc", &bytes)
+    put_named(text, b" crc", &bytes);
 }
 
-fn put_stake(text: &mut [u8], stake: Stake) -> usize
-    ensures { Puts text.old 0 (stake_text stake) result text.new }
+fn put_stake(text: &mut Text, stake: Stake)
+    ensures { Adds text.old (stake_text stake) text.new }
 {
-    let uid = stake.uid;
-    let crc = stake.crc;
-    let next = put_named(text, 0, b"flags", &[stake.flags]);
-    let next = put_named(text, next, b" dsfid", &[stake.dsfid]);
-    let next = put_uid(text, next, uid);
-    put_crc(text, next, crc)
+    put_named(text, b"flags", &[stake.flags]);
+    put_named(text, b" dsfid", &[stake.dsfid]);
+    put_uid(text, stake.uid);
+    put_crc(text, stake.crc);
 }
 
 // The data of an inventory's reply, taken apart.
-fn stake(given: &[u8], text: &mut [u8]) -> usize
-    ensures { Puts text.old 0 (question_text Question.Stake given.now) result text.new }
+fn stake(given: &[u8], text: &mut Text)
+    ensures { Adds text.old (question_text Question.Stake given.now) text.new }
 {
     match stakes::read(given) {
-        StakeRead::Taken(stake) => put_stake(text, stake),
-        StakeRead::Refused(refusal) => refusals::put_refused(text, stakes::number_of(refusal)),
+        Ok(stake) => put_stake(text, stake),
+        Err(refusal) => refusals::put_refused(text, stakes::number_of(refusal)),
     }
 }
 
 // The answer to a question over the bytes that were given.
-pub fn answer(question: Question, given: &[u8], text: &mut [u8]) -> usize
-    ensures { Puts text.old 0 (question_text question given.now) result text.new }
+pub fn answer(question: Question, given: &[u8], text: &mut Text)
+    ensures { Adds text.old (question_text question given.now) text.new }
 {
     match question {
         Question::Times => durations::times(given, text),

@@ -5,6 +5,7 @@ use mathlib.Core.Path.{◌≡◌, refl, sym, ap, ap₂, ◌∙◌}
 use mathlib.Core.List.{List, [], ◌∷◌, ◌++◌}
 use lib.Dec.{eqb, eqb→eq}
 use lib.ListN.{get_or, take, drop}
+use Rattle.std.specs.Prelude.{unwrap_or}
 use Rattle.model.specs.declared.Refusal.{Refusal}
 use Rattle.model.specs.declared.Refusal.TheVariants.{Short, Invalid, Unready, Busy, Malformed, Unawaited, ChipError, LowestTimeout, HighestTag, NoLevel, CalibrationError}
 use Rattle.words.specs.Words.{Bytes, concat}
@@ -17,9 +18,9 @@ use Rattle.digits.specs.Decimal.{value_of}
 use Rattle.refusals.specs.Refusals.{refusal_text}
 use Rattle.refusals.specs.Claims.{RefusalsTold}
 
--- a byte from a blank and its two digits on
+-- a byte from a blank and its two digits on, 256 where they are none
 abbrev code_at : List ℕ → ℕ
-code_at xs = byte_of (get_or xs 1 0) (get_or xs 2 0)
+code_at xs = unwrap_or (byte_of (get_or xs 1 0) (get_or xs 2 0)) 256
 
 -- what is written of a byte is the byte: each by one computed test
 code_back : (code : ℕ) → code < 256 → code_at (hex code) ≡ code

@@ -1,14 +1,13 @@
 -- The rule of the table: what is listed of every value is what the paper permits, by one computed test over the whole table for each question asked of it.
 -- Assumes nothing.
 use Prim.Native.Nat.{ℕ, ◌<◌}
-use mathlib.Core.Path.{◌≡◌, refl, ap, ◌∙◌}
-use mathlib.Core.Bool.{Bool, true, false}
-use mathlib.Core.List.{List, [], ◌∷◌, map}
+use mathlib.Core.Path.{◌≡◌, refl}
+use mathlib.Core.Bool.{true, false}
+use mathlib.Core.List.{[], ◌∷◌, map}
 use Rattle.words.specs.Words.{those}
 use Rattle.words.proofs.Words.{same_on_bytes}
 use Rattle.model.specs.Registers.{is_read, is_index, is_tuning, is_window}
 use Rattle.registers.specs.declared.ranges.Access.TheVariants.{Read, Write}
-use Rattle.registers.specs.declared.ranges.Range.{Range}
 use Rattle.registers.specs.LookUp.{ranges, listed}
 
 -- ---- at few values, so that a wrong row tells one
@@ -26,10 +25,6 @@ unfolding ranges
 windows = refl
 
 -- ---- at all values
-
--- what a look-up in these rows tells
-pub told : (asked : Range) (rows : List Range) (r : Bool) → rows ≡ ranges → r ≡ listed rows asked → r ≡ listed ranges asked
-told asked rows r e is = is ∙ ap (λ (xs : List Range). listed xs asked) e
 
 pub read_listed : (r : ℕ) → r < 256 → listed ranges (r, 0x00, 0xFF, Read) ≡ is_read r
 unfolding ranges

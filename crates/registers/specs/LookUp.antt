@@ -1,6 +1,7 @@
 -- The table of registers, and its look-up: some row has all that is asked for.
 -- Assumes nothing.
-use Rattle.std.specs.Prelude.{ℕ, ◌+◌, ◌*◌, Bool, true, false, ◌&&◌, ◌||◌, List, [], ◌∷◌, leb, eqb}
+use Rattle.std.specs.Prelude.{ℕ, ◌+◌, ◌*◌, Bool, true, false, ◌&&◌, List, [], ◌∷◌, leb, eqb}
+use Rattle.std.specs.List.{list_any}
 use Rattle.model.specs.Registers.{modulations}
 use Rattle.registers.specs.declared.ranges.Access.{Access}
 use Rattle.registers.specs.declared.ranges.Access.TheVariants.{Read, Write}
@@ -35,5 +36,4 @@ covered row asked = eqb row.0 asked.0 && leb row.1 asked.1 && leb asked.2 row.2 
 
 -- some row does
 abbrev pub listed : List Range → Range → Bool
-listed [] asked = false
-listed (row ∷ rows) asked = covered row asked || listed rows asked
+listed rows asked = list_any (λ (row : Range). covered row asked) rows

@@ -5,8 +5,7 @@
 pub mod ranges;
 
 ghost use Rattle.std.specs.Prelude.{◌≡◌};
-ghost use Rattle.model.specs.Registers.{is_write, sets_index, sets_window, read_allowed, write_allowed};
-ghost use Rattle.model.specs.Registers.{tunes as Registers·tunes};
+ghost use Rattle.model.specs.Registers.{is_write, sets_index, tunes, sets_window, read_allowed, write_allowed};
 
 use settings::at;
 
@@ -33,7 +32,7 @@ fn sets_index(payload: &[u8]) -> bool
 
 // 68 f 01 and a value of ARC_B.
 fn tunes(payload: &[u8]) -> bool
-    ensures { result ≡ Registers·tunes payload.now }
+    ensures { result ≡ tunes payload.now }
 {
     is_write(payload, 4, 0x68)
         && ranges::is_index(at(payload, 2))

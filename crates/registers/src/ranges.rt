@@ -1,9 +1,10 @@
 // The table of registers: what is read and written there, with which values, and the look-up that its rows share.
 ghost use Rattle.std.specs.Prelude.{◌≡◌};
 ghost use Rattle.model.specs.Registers.{is_read, is_index, is_tuning, is_window};
-ghost use Rattle.registers.specs.LookUp.{ranges, same, covered, listed};
+ghost use Rattle.registers.specs.LookUp.{ranges, covered, listed};
+ghost use Rattle.registers.specs.declared.ranges.Access.TheVariants.{Write};
 
-#[derive(Clone, Copy)]
+#[derive(Clone, Copy, PartialEq, Eq)]
 pub enum Access {
     Read,
     Write,
@@ -52,31 +53,14 @@ const RANGES: [Range; 32] = [
     Range(0x69, 0xDF, 0xDF, Access::Write),
 ];
 
-fn are_same(one: Access, other: Access) -> bool
-    ensures { result ≡ same one other }
-{
-    match one {
-        Access::Read => match other {
-            Access::Read => true,
-            Access::Write => false,
-        },
-        Access::Write => match other {
-            Access::Read => false,
-            Access::Write => true,
-        },
-    }
-}
-
 // A row has the register that is asked for, with all the values, to be read or written.
 fn covers(row: Range, asked: Range) -> bool
     ensures { result ≡ covered row asked }
 {
-    let access = row.3;
-    let wanted = asked.3;
-    row.0 == asked.0 && row.1 <= asked.1 && asked.2 <= row.2 && are_same(access, wanted)
+    row.0 == asked.0 && row.1 <= asked.1 && asked.2 <= row.2 && row.3 == asked.3
 }
 
-// All rows.
+// All rows. The table is a const, by value: the form that document 01 names.
 fn table() -> [Range; 32]
     ensures { result ≡ ranges }
 {
@@ -84,43 +68,47 @@ fn table() -> [Range; 32]
 }
 
 // Some row does.
-fn is_listed(rows: [Range; 32], asked: Range) -> bool
-    ensures { result ≡ listed rows asked }
+fn is_listed(asked: Range) -> bool
+    ensures { result ≡ listed ranges asked }
 {
-    let mut i: usize = 0;
-    while i < 32 {
-        if covers(rows[i], asked) {
-            return true;
-        }
-        i += 1;
-    }
-    false
+    table().iter().any(|row| covers(*row, asked))
+}
+
+// A register is given a value.
+fn is_set(register: u8, value: u8) -> bool
+    ensures { result ≡ listed ranges (register, value, value, Write) }
+{
+    is_listed(Range(register, value, value, Access::Write))
 }
 
 // A register is read, whatever it holds.
+#[tactic(auto, using(crate::proofs::Rule::read_listed))]
 pub fn is_read(register: u8) -> bool
     ensures { result ≡ is_read register }
 {
-    is_listed(table(), Range(register, 0x00, 0xFF, Access::Read))
+    is_listed(Range(register, 0x00, 0xFF, Access::Read))
 }
 
 // The index is set to a value.
+#[tactic(auto, using(crate::proofs::Rule::index_listed))]
 pub fn is_index(value: u8) -> bool
     ensures { result ≡ is_index value }
 {
-    is_listed(table(), Range(0x68, value, value, Access::Write))
+    is_set(0x68, value)
 }
 
 // ARC_B is given a value.
+#[tactic(auto, using(crate::proofs::Rule::tuning_listed))]
 pub fn is_tuning(value: u8) -> bool
     ensures { result ≡ is_tuning value }
 {
-    is_listed(table(), Range(0x69, value, value, Access::Write))
+    is_set(0x69, value)
 }
 
 // The timer window is given a value.
+#[tactic(auto, using(crate::proofs::Rule::window_listed))]
 pub fn is_window(value: u8) -> bool
     ensures { result ≡ is_window value }
 {
-    is_listed(table(), Range(0x3A, value, value, Access::Write))
+    is_set(0x3A, value)
 }

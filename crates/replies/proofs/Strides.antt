@@ -3,9 +3,9 @@
 use Prim.Native.Nat.{ℕ, ◌+◌, ◌-◌, ◌≤◌, ◌<◌}
 use native.Mathlib.Omega.{arith}
 use mathlib.Core.Path.{◌≡◌, sym, ap, ap₂, ◌∙◌, subst}
-use mathlib.Core.List.{List}
-use lib.ListN.{length, take, drop, take-append-drop, length-drop}
-use lib.Seq.{length-take-le, take-length, take_all, drop-drop}
+use mathlib.Core.List.{List, [], ◌∷◌}
+use lib.ListN.{length, get_or, take, drop, take-append-drop, length-drop}
+use lib.Seq.{length-take-le, take-length, take_all}
 use Rattle.model.specs.declared.Form.{Form}
 use Rattle.model.specs.declared.Phase.{Phase}
 use Rattle.model.specs.declared.Phase.TheVariants.{Data}
@@ -47,32 +47,35 @@ module _ (f : Form) where
         let m = data_all f h c (take (c - h) xs) lt few (omega arith) in
         strides (Data h c) xs r (Over Good) (c - h) s n (omega arith) le (ap₂ walk m.0 m.1)
 
--- ---- what is left to do, at an index of the piece
+-- ---- what is left to do, at a rest of the piece
 
-abbrev pub Left : Form → Step → List ℕ → Step → ℕ → Type 0
-Left f s₀ xs s i = (reached f s₀ xs ≡ reached f s (drop i xs)) × (used f s₀ xs ≡ i + used f s (drop i xs))
+pub record Left (f : Form) (s₀ : Step) (xs : List ℕ) (s : Step) (rest : List ℕ) : Type 0 where
+  pub inside : length rest ≤ length xs
+  pub leads : reached f s₀ xs ≡ reached f s rest
+  pub reads : used f s₀ xs ≡ length xs - length rest + used f s rest
+
+-- a first byte and the bytes behind it
+taken_apart : (rest : List ℕ) → 1 ≤ length rest → get_or rest 0 0 ∷ take (length rest - 1) (drop 1 rest) ≡ rest
+taken_apart [] some = absurd (omega arith)
+taken_apart (x ∷ xs) some = ap (λ (ys : List ℕ). x ∷ ys) (take_all (length (x ∷ xs) - 1) xs (omega arith))
 
 module _ (f : Form) (s₀ : Step) (xs : List ℕ) where
-  -- behind the first n bytes of a rest
-  split : (s : Step) (n : ℕ) (ys : List ℕ) → (reached f s ys ≡ reached f (reached f s (take n ys)) (drop n ys)) × (used f s ys ≡ used f s (take n ys) + used f (reached f s (take n ys)) (drop n ys))
-  split s n ys =
-      let e = sym (take-append-drop n ys) in
-      (ap (reached f s) e ∙ reached_append f s (take n ys) (drop n ys), ap (used f s) e ∙ used_append f s (take n ys) (drop n ys))
-
-  pub left_on : (q : Phase) (i : ℕ) (w : Walk) (s : Step) → w.step ≡ s → Strides f q (take (length xs - i) (drop i xs)) w → Left f s₀ xs (On q) i → Left f s₀ xs s (i + w.used)
-  left_on q i w s e st left =
+  pub left_on : (q : Phase) (rest : List ℕ) (w : Walk) (s : Step) → 1 ≤ length rest → w.step ≡ s
+      → Strides f q (get_or rest 0 0 ∷ take (length rest - 1) (drop 1 rest)) w → Left f s₀ xs (On q) rest
+      → Left f s₀ xs s (take (length rest - w.used) (drop w.used rest))
+  left_on q rest w s some e strode left =
+      let st : Strides f q rest w = subst (λ (l : List ℕ). Strides f q l w) (taken_apart rest some) strode in
       let n = w.used in
-      let ys = drop i xs in
-      let all : take (length xs - i) ys ≡ ys = take_all (length xs - i) ys (omega (arith, length-drop i xs)) in
-      let leads : w ≡ walked f (On q) (take n ys) = st.leads ∙ ap (λ (l : List ℕ). walked f (On q) (take n l)) all in
-      let here : reached f (On q) (take n ys) ≡ s = ap (λ (v : Walk). v.step) (sym leads) ∙ e in
-      let read : used f (On q) (take n ys) ≡ n = ap (λ (v : Walk). v.used) (sym leads) in
-      let cut = split (On q) n ys in
-      let on : (t : Step) → reached f (On q) (take n ys) ≡ t → (reached f (On q) ys ≡ reached f t (drop (i + n) xs)) × (used f (On q) ys ≡ n + used f t (drop (i + n) xs)) = λ t h.
-      (cut.0 ∙ ap₂ (reached f) h (drop-drop n i xs), cut.1 ∙ ap₂ ◌+◌ read (ap₂ (used f) h (drop-drop n i xs))) in
-      let m = on s here in
-      (left.0 ∙ m.0, omega (arith, left.1, m.1))
+      let here : reached f (On q) (take n rest) ≡ s = ap (λ (v : Walk). v.step) (sym st.leads) ∙ e in
+      let read : used f (On q) (take n rest) ≡ n = ap (λ (v : Walk). v.used) (sym st.leads) in
+      let cut = sym (take-append-drop n rest) in
+      subst (Left f s₀ xs s) (sym (take_all (length rest - n) (drop n rest) (omega (arith, length-drop n rest))))
+      (record {
+        inside = omega (arith, length-drop n rest, left.inside);
+        leads = left.leads ∙ ap (reached f (On q)) cut ∙ reached_append f (On q) (take n rest) (drop n rest) ∙ ap (λ (t : Step). reached f t (drop n rest)) here;
+        reads = omega (arith, left.inside, left.reads, st.most, length-drop n rest, read, ap (used f (On q)) cut, used_append f (On q) (take n rest) (drop n rest), ap (λ (t : Step). used f t (drop n rest)) here);
+      })
 
   -- the reply is over, and the piece is
-  pub left_over : (e : End) (i : ℕ) → Left f s₀ xs (Over e) i → walk (Over e) i ≡ walked f s₀ xs
-  left_over e i left = sym (ap₂ walk (left.0 ∙ stays f e (drop i xs)) (omega (arith, left.1, no_more f e (drop i xs))))
+  pub left_over : (e : End) (rest : List ℕ) → Left f s₀ xs (Over e) rest → walk (Over e) (length xs - length rest) ≡ walked f s₀ xs
+  left_over e rest left = sym (ap₂ walk (left.leads ∙ stays f e rest) (omega (arith, left.reads, no_more f e rest)))

@@ -9,7 +9,7 @@ ghost use Rattle.sending.specs.Sent.{waiting, sent_by};
 
 use model::{
     Answer, Awaited, Calibration, Interface, Kind, Outcome, Phase, Place, Progress, Refusal,
-    Session, State, Written,
+    Session, State,
 };
 
 // An answer that consumes nothing and names no data.
@@ -32,12 +32,12 @@ pub fn refused(s: Session, refusal: Refusal) -> Outcome
 }
 
 // Bytes were written and the session goes on, or it stays.
-pub fn sent(written: Written, s: Session, next: Session) -> Outcome
+pub fn sent(written: Result<usize, Refusal>, s: Session, next: Session) -> Outcome
     ensures { result ≡ sent_by written s next }
 {
     match written {
-        Written::Sent(count) => outcome(next, Answer::Sent { count }),
-        Written::Refused(refusal) => refused(s, refusal),
+        Ok(count) => outcome(next, Answer::Sent { count }),
+        Err(refusal) => refused(s, refusal),
     }
 }
 
@@ -48,20 +48,19 @@ pub fn powered(interface: Interface) -> Session
     Session {
         interface,
         state: State::PowerUp,
-        calibration: Calibration::Off,
+        calibration: None,
     }
 }
 
 // A reply is awaited, and the calibration is as given.
-fn awaiting(s: Session, awaited: Awaited, calibration: Calibration) -> Session
+fn awaiting(s: Session, awaited: Awaited, calibration: Option<Calibration>) -> Session
     ensures { result ≡ waiting s awaited calibration }
 {
-    let state = s.state;
     let progress = Progress {
         awaited,
         phase: Phase::Begun,
     };
-    let selected = states::protocol_of(state);
+    let selected = states::protocol_of(s.state);
     states::into(s, State::Waiting { progress, selected }, calibration)
 }
 
@@ -69,8 +68,8 @@ fn awaiting(s: Session, awaited: Awaited, calibration: Calibration) -> Session
 pub fn sent_awaiting(
     s: Session,
     awaited: Awaited,
-    calibration: Calibration,
-    written: Written,
+    calibration: Option<Calibration>,
+    written: Result<usize, Refusal>,
 ) -> Outcome
     ensures { result ≡ sent_by written s (waiting s awaited calibration) }
 {
@@ -78,10 +77,9 @@ pub fn sent_awaiting(
 }
 
 // A command was written and its reply is awaited, or the session stays.
-pub fn requested(s: Session, kind: Kind, payload: &[u8], written: Written) -> Outcome
+pub fn requested(s: Session, kind: Kind, payload: &[u8], written: Result<usize, Refusal>) -> Outcome
     ensures { result ≡ sent_by written s (sessions.awaiting s (command kind payload.now) s.calibration) }
 {
-    let calibration = s.calibration;
     let first = settings::at(payload, 0);
-    sent_awaiting(s, Awaited { kind, first }, calibration, written)
+    sent_awaiting(s, Awaited { kind, first }, s.calibration, written)
 }

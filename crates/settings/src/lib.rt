@@ -12,10 +12,10 @@ use model::{Pair, Settings};
 pub fn at(bytes: &[u8], i: usize) -> u8
     ensures { result ≡ get_or bytes.now i 0 }
 {
-    if i < bytes.len() { bytes[i] } else { 0 }
+    bytes.get(i).copied().unwrap_or(0)
 }
 
-// The settings whose Idle data these bytes are.
+// The settings whose Idle data these bytes are. No From: an impl stands with its type, and the model has types alone.
 pub fn of_data(bytes: &[u8]) -> Settings
     ensures { Gathers bytes.now result }
 {
@@ -61,14 +61,7 @@ fn tag_wakes(source: u8) -> bool
 pub fn is_allowed(s: Settings) -> bool
     ensures { Allows s result }
 {
-    let source = s.source;
-    if source_is_allowed(source) {} else {
-        return false;
-    }
-    if tag_wakes(source) {
-        return s.low <= s.high;
-    }
-    true
+    source_is_allowed(s.source) && (!tag_wakes(s.source) || s.low <= s.high)
 }
 
 // Bits 7:6 of WU source.

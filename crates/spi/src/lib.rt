@@ -4,49 +4,47 @@
 
 ghost use Rattle.model.specs.Frames.{Transfer, Writes, Receives, Flagged};
 
-use model::{Flags, Interface, Refusal, Written};
+use model::{Flags, Interface, Refusal};
 
 // The greatest number of bytes that one read takes.
 pub const GREATEST_READ: usize = 530;
 
-pub fn reset(interface: Interface, out: &mut [u8]) -> Written
+// Each form has a function of its own, here and below, whose contract names its transfer.
+pub fn reset(interface: Interface, out: &mut [u8]) -> Result<usize, Refusal>
     ensures { Writes interface Transfer.reset out.old result out.new }
 {
     match interface {
         Interface::Spi => frames::put(b"\x01", b"", b"", out),
-        Interface::Uart => Written::Refused(Refusal::Invalid),
+        Interface::Uart => Err(Refusal::Invalid),
     }
 }
 
-pub fn poll(interface: Interface, out: &mut [u8]) -> Written
+pub fn poll(interface: Interface, out: &mut [u8]) -> Result<usize, Refusal>
     ensures { Writes interface Transfer.poll out.old result out.new }
 {
     match interface {
         Interface::Spi => frames::put(b"\x03", b"\x03", b"", out),
-        Interface::Uart => Written::Refused(Refusal::Invalid),
+        Interface::Uart => Err(Refusal::Invalid),
     }
 }
 
 // A read over SPI: 02 and n bytes 00.
-fn read_by_spi(n: usize, out: &mut [u8]) -> Written
+fn read_by_spi(n: usize, out: &mut [u8]) -> Result<usize, Refusal>
     ensures { Writes Interface.Spi (Transfer.read n) out.old result out.new }
 {
-    if n < 1 {
-        return Written::Refused(Refusal::Invalid);
-    }
-    if GREATEST_READ < n {
-        return Written::Refused(Refusal::Invalid);
+    if n < 1 || GREATEST_READ < n {
+        return Err(Refusal::Invalid);
     }
     let zeros = [0u8; GREATEST_READ];
     frames::put(b"\x02", &zeros[..n], b"", out)
 }
 
-pub fn read(interface: Interface, n: usize, out: &mut [u8]) -> Written
+pub fn read(interface: Interface, n: usize, out: &mut [u8]) -> Result<usize, Refusal>
     ensures { Writes interface (Transfer.read n) out.old result out.new }
 {
     match interface {
         Interface::Spi => read_by_spi(n, out),
-        Interface::Uart => Written::Refused(Refusal::Invalid),
+        Interface::Uart => Err(Refusal::Invalid),
     }
 }
 
@@ -54,10 +52,10 @@ pub fn read(interface: Interface, n: usize, out: &mut [u8]) -> Written
 pub fn received(transfer: &[u8]) -> &[u8]
     ensures { Receives transfer.now result.now }
 {
-    if transfer.len() < 1 {
-        return &transfer[..0];
+    match transfer {
+        [] => transfer,
+        [_, rest @ ..] => rest,
     }
-    &transfer[1..]
 }
 
 pub fn flags(byte: u8) -> Flags

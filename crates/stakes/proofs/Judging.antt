@@ -1,5 +1,6 @@
 -- What three tests in order lead to: a refusal by its number, or a stake.
 -- Assumes nothing.
+use Rattle.std.specs.Prelude.{Err, Ok, Result}
 use Prim.Native.Nat.{ℕ}
 use mathlib.Core.Path.{◌≡◌, refl, sym, ap}
 use mathlib.Core.Bool.{Bool, true, false, true≢false}
@@ -9,13 +10,12 @@ use borrow.Author.Tests.{eqb-false}
 use Rattle.model.specs.Refusals.{Number, none, number}
 use Rattle.stakes.specs.declared.Stake.{Stake}
 use Rattle.stakes.specs.declared.Unread.TheVariants.{OtherLength, WrongCrc, WrongStatus}
-use Rattle.stakes.specs.declared.StakeRead.{StakeRead}
-use Rattle.stakes.specs.declared.StakeRead.TheVariants.{Taken, Refused}
 use Rattle.stakes.specs.Stakes.{unless, number_in}
+use Rattle.stakes.specs.declared.Unread.{Unread}
 
 -- the length, the CRC and the status are right
-abbrev pub tested : Bool → Bool → Bool → Stake → StakeRead
-tested a b c s = unless a OtherLength (unless b WrongCrc (unless c WrongStatus (Taken s)))
+abbrev pub tested : Bool → Bool → Bool → Stake → Result Stake Unread
+tested a b c s = unless a OtherLength (unless b WrongCrc (unless c WrongStatus (Ok s)))
 
 -- ---- two numbers, and two stakes, told apart
 
@@ -26,9 +26,9 @@ value (number n) = n
 other : {A : Type 0} (x y : Number) → eqb (value x) (value y) ≡ false → x ≡ y → A
 other x y f e = absurd (eqb-false (value x) (value y) f (ap value e))
 
-abbrev stake_in : Stake → StakeRead → Stake
-stake_in s (Taken t) = t
-stake_in s (Refused k) = s
+abbrev stake_in : Stake → Result Stake Unread → Stake
+stake_in s (Ok t) = t
+stake_in s (Err k) = s
 
 -- ---- which it is
 
@@ -50,8 +50,8 @@ third true false c s = (other (number 14) (number 15) refl, λ e. absurd (true�
 third true true false s = (λ _. (refl, refl, refl), λ _. refl)
 third true true true s = (other none (number 15) refl, λ e. absurd (true≢false e.2))
 
-pub none_holds : (a b c : Bool) (s t : Stake) → (tested a b c s ≡ Taken t) ↔ ((a ≡ true) × (b ≡ true) × (c ≡ true) × (s ≡ t))
+pub none_holds : (a b c : Bool) (s t : Stake) → (tested a b c s ≡ Ok t) ↔ ((a ≡ true) × (b ≡ true) × (c ≡ true) × (s ≡ t))
 none_holds false b c s t = (λ e. other (number 13) none refl (ap number_in e), λ e. absurd (true≢false (sym e.0)))
 none_holds true false c s t = (λ e. other (number 14) none refl (ap number_in e), λ e. absurd (true≢false (sym e.1)))
 none_holds true true false s t = (λ e. other (number 15) none refl (ap number_in e), λ e. absurd (true≢false (sym e.2)))
-none_holds true true true s t = (λ e. (refl, refl, refl, ap (stake_in s) e), λ e. ap Taken e.3)
+none_holds true true true s t = (λ e. (refl, refl, refl, ap (stake_in s) e), λ e. ap Ok e.3)

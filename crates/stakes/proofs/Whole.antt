@@ -1,5 +1,6 @@
 -- A stake is its thirteen bytes, and which bytes are refused.
 -- Assumes nothing.
+use Rattle.std.specs.Prelude.{Ok}
 use Prim.Native.Nat.{ℕ, ◌/◌, ◌%◌}
 use mathlib.Core.Path.{◌≡◌, refl, sym, ap, subst, ◌∙◌}
 use mathlib.Core.Bool.{Bool, true, false, true≢false}
@@ -14,7 +15,6 @@ use Rattle.words.proofs.Contract.{one_answer, one_outcome}
 use Rattle.crc.specs.Crc.{crc_of}
 use Rattle.stakes.specs.declared.Crc.{Crc}
 use Rattle.stakes.specs.declared.Stake.{Stake}
-use Rattle.stakes.specs.declared.StakeRead.TheVariants.{Taken}
 use Rattle.stakes.specs.Stakes.{together, apart, is_of, is_thirteen, is_closed, is_zero, read, write}
 use Rattle.stakes.specs.Claims.{Closed, Refuses, PutTogether, OneEach}
 use Rattle.stakes.proofs.Judging.{first, second, third, none_holds}
@@ -82,10 +82,10 @@ put_together xs s =
             subst Closed t.3 ((closed_so xs thirteen).0 t.1),
             ap (λ (z : Stake). z.status) (sym t.3) ∙ eqb-true (apart xs).status 0x00 t.2,
           ),
-      λ n. subst (λ (ys : List ℕ). read ys ≡ Taken s) n.0 (whole s n.1 n.2),
+      λ n. subst (λ (ys : List ℕ). read ys ≡ Ok s) n.0 (whole s n.1 n.2),
     )
   where
-    whole : (s : Stake) → Closed s → s.status ≡ 0 → read (together s) ≡ Taken s
+    whole : (s : Stake) → Closed s → s.status ≡ 0 → read (together s) ≡ Ok s
     whole s closed zero =
         (none_holds true (is_closed (together s)) (is_zero (together s)) s s).1 (refl, (closed_so (together s) refl).1 closed, eq-eqb s.status 0x00 zero, refl)
 

@@ -1,6 +1,6 @@
 -- What is promised of stakes: which answers are refused, that a stake is its thirteen bytes, and that it is read off what the chip sent.
 -- Assumes nothing.
-use Rattle.std.specs.Prelude.{ℕ, ◌/◌, ◌%◌, ◌≤◌, ◌<◌, ◌≡◌, true, ◌↔◌, List, ◌∷◌, ◌++◌, eqb, length, get_or, set, take}
+use Rattle.std.specs.Prelude.{ℕ, ◌/◌, ◌%◌, ◌≤◌, ◌<◌, ◌≡◌, true, ◌↔◌, List, ◌∷◌, ◌++◌, eqb, length, get_or, set, take, Ok, Result}
 use Rattle.model.specs.declared.Kind.TheVariants.{SendRecv}
 use Rattle.model.specs.declared.Answer.{Answer}
 use Rattle.model.specs.declared.Outcome.{Outcome}
@@ -14,10 +14,9 @@ use Rattle.model.specs.Promises.{After}
 use Rattle.model.specs.Feeding.{InFront}
 use Rattle.crc.specs.Crc.{crc_of}
 use Rattle.stakes.specs.declared.Stake.{Stake}
-use Rattle.stakes.specs.declared.StakeRead.{StakeRead}
-use Rattle.stakes.specs.declared.StakeRead.TheVariants.{Taken}
 use Rattle.stakes.specs.declared.Slots.{Slots}
 use Rattle.stakes.specs.Stakes.{together, apart, read, number_in, write}
+use Rattle.stakes.specs.declared.Unread.{Unread}
 
 -- ---- refusals 13, 14 and 15
 
@@ -39,12 +38,12 @@ Refuses = (xs : List ℕ) → RefusedFor xs
 
 -- bytes are taken apart to a stake exactly if that, put together, is these bytes again, with the right CRC and the status zero
 abbrev pub PutTogether : Type 0
-PutTogether = (xs : List ℕ) (s : Stake) → (read xs ≡ Taken s) ↔ ((together s ≡ xs) × Closed s × (s.status ≡ 0))
+PutTogether = (xs : List ℕ) (s : Stake) → (read xs ≡ Ok s) ↔ ((together s ≡ xs) × Closed s × (s.status ≡ 0))
 
 -- an answer that is taken is refused with any one of its bytes changed: with 15 where that is the status, with 14 otherwise
 abbrev pub Notices : Type 0
 Notices =
-    (xs : List ℕ) (s : Stake) (k b : ℕ) → read xs ≡ Taken s → Bytes xs → k < length xs → b < 256 → (get_or xs k 0 ≡ b → ⊥) →
+    (xs : List ℕ) (s : Stake) (k b : ℕ) → read xs ≡ Ok s → Bytes xs → k < length xs → b < 256 → (get_or xs k 0 ≡ b → ⊥) →
     number_in (read (set xs k b)) ≡ number (pick (eqb k 12) 15 14)
 
 -- ---- a stake is read off what the chip sent
@@ -55,7 +54,7 @@ handed_out piece o = data_of piece o.bytes o.answer.place
 
 -- a piece is good and its data are read as a stake
 abbrev pub Reads : List ℕ → Ran Outcome → Stake → Type 0
-Reads piece o s = (o.answer.answer ≡ Answer.Good) × (read (handed_out piece o) ≡ Taken s)
+Reads piece o s = (o.answer.answer ≡ Answer.Good) × (read (handed_out piece o) ≡ Ok s)
 
 -- what was fed since the command begins with 80, 0D and the stake's thirteen bytes
 abbrev pub Begins : List ℕ → Stake → Type 0
@@ -72,5 +71,5 @@ ReadOff =
 -- ---- any two outcomes that a contract allows coincide
 
 pub record OneEach : Type 0 where
-  pub reads : (xs : List ℕ) → OneAnswer (λ (r : StakeRead). r ≡ read xs)
+  pub reads : (xs : List ℕ) → OneAnswer (λ (r : Result Stake Unread). r ≡ read xs)
   pub writes : (slots : Slots) (out : List ℕ) → OneOutcome (Is (write slots out))

@@ -1,7 +1,6 @@
 -- Document 02, P5: what a stake answers to an inventory, as the data of a SendRecv reply, and the request that asks for it.
 -- Assumes nothing.
-use Rattle.std.specs.Prelude.{ℕ, ◌/◌, ◌%◌, Bool, ◌&&◌, List, [], ◌∷◌, eqb, length, take, get_or}
-use Rattle.model.specs.declared.Written.{Written}
+use Rattle.std.specs.Prelude.{ℕ, ◌/◌, ◌%◌, Bool, ◌&&◌, List, [], ◌∷◌, eqb, length, take, get_or, Err, Ok, Result}
 use Rattle.words.specs.Words.{pick}
 use Rattle.words.specs.Contract.{Ran}
 use Rattle.model.specs.Refusals.{Number, none, number}
@@ -11,11 +10,10 @@ use Rattle.stakes.specs.declared.Crc.{Crc}
 use Rattle.stakes.specs.declared.Stake.{Stake}
 use Rattle.stakes.specs.declared.Unread.{Unread}
 use Rattle.stakes.specs.declared.Unread.TheVariants.{OtherLength, WrongCrc, WrongStatus}
-use Rattle.stakes.specs.declared.StakeRead.{StakeRead}
-use Rattle.stakes.specs.declared.StakeRead.TheVariants.{Taken, Refused}
 use Rattle.stakes.specs.declared.Slots.{Slots}
 use Rattle.stakes.specs.declared.Slots.TheVariants.{One, Sixteen}
 use Rattle.crc.specs.Crc.{crc_of}
+use Rattle.model.specs.declared.Refusal.{Refusal}
 
 -- ---- the thirteen bytes
 
@@ -56,8 +54,8 @@ apart xs =
 -- ---- the reader
 
 -- refused, unless a test holds
-abbrev pub unless : Bool → Unread → StakeRead → StakeRead
-unless b k otherwise = pick b otherwise (Refused k)
+abbrev pub unless : Bool → Unread → Result Stake Unread → Result Stake Unread
+unless b k otherwise = pick b otherwise (Err k)
 
 -- a CRC is that of bytes
 abbrev pub is_of : Crc → List ℕ → Bool
@@ -74,8 +72,8 @@ abbrev pub is_zero : List ℕ → Bool
 is_zero xs = eqb (apart xs).status 0x00
 
 -- not 13 bytes, a wrong CRC, a status that is not zero, tested in that order; flags and DSFID are carried unchecked
-abbrev pub read : List ℕ → StakeRead
-read xs = unless (is_thirteen xs) OtherLength (unless (is_closed xs) WrongCrc (unless (is_zero xs) WrongStatus (Taken (apart xs))))
+abbrev pub read : List ℕ → Result Stake Unread
+read xs = unless (is_thirteen xs) OtherLength (unless (is_closed xs) WrongCrc (unless (is_zero xs) WrongStatus (Ok (apart xs))))
 
 -- their numbers
 abbrev pub number_of : Unread → ℕ
@@ -83,9 +81,9 @@ number_of OtherLength = 13
 number_of WrongCrc = 14
 number_of WrongStatus = 15
 
-abbrev pub number_in : StakeRead → Number
-number_in (Taken s) = none
-number_in (Refused k) = number (number_of k)
+abbrev pub number_in : Result Stake Unread → Number
+number_in (Ok s) = none
+number_in (Err k) = number (number_of k)
 
 -- ---- the request
 
@@ -95,5 +93,5 @@ request One = 0x26 ∷ 0x01 ∷ 0x00 ∷ []
 request Sixteen = 0x06 ∷ 0x01 ∷ 0x00 ∷ []
 
 -- it stands at the front of the output, or that is too short (1)
-abbrev pub write : Slots → List ℕ → Ran Written
+abbrev pub write : Slots → List ℕ → Ran (Result ℕ Refusal)
 write slots out = put (request slots) out

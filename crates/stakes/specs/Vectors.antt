@@ -1,11 +1,9 @@
 -- Inventory answers and requests that document 000 prints, and answers beside them, taken or refused.
 -- Assumes nothing.
-use Rattle.std.specs.Prelude.{ℕ, ◌≡◌, Bool, true, false, List, [], ◌∷◌, ◌++◌, map, take, drop, set, replicate}
+use Rattle.std.specs.Prelude.{ℕ, ◌≡◌, Bool, true, false, List, [], ◌∷◌, ◌++◌, map, take, drop, set, replicate, Err, Ok, Result}
 use Rattle.model.specs.declared.Interface.TheVariants.{Uart}
 use Rattle.model.specs.declared.Refusal.TheVariants.{Short}
 use Rattle.model.specs.declared.Kind.TheVariants.{ProtocolSelect, SendRecv}
-use Rattle.model.specs.declared.Written.{Written}
-use Rattle.model.specs.declared.Written.TheVariants.{Sent}
 use Rattle.words.specs.Words.{those}
 use Rattle.words.specs.Contract.{Ran}
 use Rattle.model.specs.Refusals.{Number, number}
@@ -16,11 +14,11 @@ use Rattle.model.specs.History.{Reached, on, run, turn, requested, exchange, exc
 use Rattle.model.specs.Feeding.{InFront}
 use Rattle.stakes.specs.declared.Uid.{Uid}
 use Rattle.stakes.specs.declared.Stake.{Stake}
-use Rattle.stakes.specs.declared.StakeRead.{StakeRead}
-use Rattle.stakes.specs.declared.StakeRead.TheVariants.{Taken, Refused}
 use Rattle.stakes.specs.declared.Slots.TheVariants.{One, Sixteen}
 use Rattle.stakes.specs.Stakes.{together, written, read, number_in, request, write}
 use Rattle.stakes.specs.Claims.{Reads}
+use Rattle.model.specs.declared.Refusal.{Refusal}
+use Rattle.stakes.specs.declared.Unread.{Unread}
 
 -- ---- answers
 
@@ -46,10 +44,10 @@ abbrev pub stake : ℕ → ℕ → Uid → ℕ → ℕ → ℕ → Stake
 stake flags dsfid u low high status = record { flags = flags; dsfid = dsfid; uid = u; crc = record { low = low; high = high }; status = status }
 
 pub record Answers : Type 0 where
-  pub printed : read answer ≡ Taken (stake 0x00 0x00 (uid 0xE0 0x02 0x29 0xD6 0x6C 0x40 0xE0 0xCD) 0x05 0x79 0x00)
-  pub printed_lr : read answer_lr ≡ Taken (stake 0x00 0x00 (uid 0xE0 0x02 0x21 0xB4 0x28 0x01 0x10 0xB7) 0x66 0xCC 0x00)
-  pub printed_dual : read answer_dual ≡ Taken (stake 0x00 0xFF (uid 0xE0 0x02 0x2C 0x13 0x92 0x20 0x06 0x07) 0x3D 0x22 0x00)
-  pub in_place : read unlike ≡ Taken (stake 0x11 0x12 (uid 0x1A 0x19 0x18 0x17 0x16 0x15 0x14 0x13) 0x1E 0x01 0x00)
+  pub printed : read answer ≡ Ok (stake 0x00 0x00 (uid 0xE0 0x02 0x29 0xD6 0x6C 0x40 0xE0 0xCD) 0x05 0x79 0x00)
+  pub printed_lr : read answer_lr ≡ Ok (stake 0x00 0x00 (uid 0xE0 0x02 0x21 0xB4 0x28 0x01 0x10 0xB7) 0x66 0xCC 0x00)
+  pub printed_dual : read answer_dual ≡ Ok (stake 0x00 0xFF (uid 0xE0 0x02 0x2C 0x13 0x92 0x20 0x06 0x07) 0x3D 0x22 0x00)
+  pub in_place : read unlike ≡ Ok (stake 0x11 0x12 (uid 0x1A 0x19 0x18 0x17 0x16 0x15 0x14 0x13) 0x1E 0x01 0x00)
   pub put : together (stake 0x21 0x22 (uid 0x2A 0x29 0x28 0x27 0x26 0x25 0x24 0x23) 0x2B 0x2C 0x2D)
       ≡ 0x21 ∷ 0x22 ∷ 0x23 ∷ 0x24 ∷ 0x25 ∷ 0x26 ∷ 0x27 ∷ 0x28 ∷ 0x29 ∷ 0x2A ∷ 0x2B ∷ 0x2C ∷ 0x2D ∷ []
   -- as people write it
@@ -57,9 +55,9 @@ pub record Answers : Type 0 where
 
 -- ---- refusals
 
-abbrev pub is_taken : StakeRead → Bool
-is_taken (Taken s) = true
-is_taken (Refused k) = false
+abbrev pub is_taken : Result Stake Unread → Bool
+is_taken (Ok s) = true
+is_taken (Err k) = false
 
 abbrev pub numbers : List (List ℕ) → List Number
 numbers = map (λ (xs : List ℕ). number_in (read xs))
@@ -93,11 +91,11 @@ pub record Refusals : Type 0 where
 abbrev pub output : ℕ → List ℕ
 output n = take n (0x31 ∷ 0x32 ∷ 0x33 ∷ 0x34 ∷ 0x35 ∷ [])
 
-abbrev pub gives : ℕ → List ℕ → Ran Written
-gives n bytes = record { answer = Sent n; bytes = bytes }
+abbrev pub gives : ℕ → List ℕ → Ran (Result ℕ Refusal)
+gives n bytes = record { answer = Ok n; bytes = bytes }
 
-abbrev pub short : List ℕ → Ran Written
-short bytes = record { answer = Written.Refused Short; bytes = bytes }
+abbrev pub short : List ℕ → Ran (Result ℕ Refusal)
+short bytes = record { answer = Err Short; bytes = bytes }
 
 pub record Requests : Type 0 where
   pub one_slot : write One (output 5) ≡ gives 3 (0x26 ∷ 0x01 ∷ 0x00 ∷ 0x34 ∷ 0x35 ∷ [])

@@ -4,13 +4,12 @@
 
 ghost use Rattle.std.specs.Prelude.{◌≡◌};
 ghost use Rattle.words.specs.Contract.{Is};
-ghost use Rattle.stakes.specs.Stakes.{uid_at, is_of, number_of};
-ghost use Rattle.stakes.specs.Stakes.{apart as Stakes·apart, read as Stakes·read, write as Stakes·write};
+ghost use Rattle.stakes.specs.Stakes.{number_of, uid_at, apart, is_of, read, write};
 
-use model::Written;
+use model::Refusal;
 use settings::at;
 
-// A UID in the order in which people write it.
+// A UID in the order in which people write it; the definitions name each of its bytes.
 #[derive(Clone, Copy)]
 pub struct Uid {
     pub first: u8,
@@ -50,12 +49,6 @@ pub enum Unread {
     WrongStatus = 15,
 }
 
-#[derive(Clone, Copy)]
-pub enum StakeRead {
-    Taken(Stake),
-    Refused(Unread),
-}
-
 // How many slots an inventory has.
 #[derive(Clone, Copy)]
 pub enum Slots {
@@ -87,7 +80,7 @@ fn uid_at(payload: &[u8]) -> Uid
 }
 
 fn apart(payload: &[u8]) -> Stake
-    ensures { result ≡ Stakes·apart payload.now }
+    ensures { result ≡ apart payload.now }
 {
     Stake {
         flags: at(payload, 0),
@@ -105,34 +98,33 @@ fn apart(payload: &[u8]) -> Stake
 fn is_of(crc: Crc, bytes: &[u8]) -> bool
     ensures { result ≡ is_of crc bytes.now }
 {
-    let right = crc::of(bytes);
-    crc.low == (right % 256) as u8 && crc.high == (right / 256) as u8
+    crc::of(bytes).to_le_bytes() == [crc.low, crc.high]
 }
 
 // Takes the data of a SendRecv reply apart.
-pub fn read(payload: &[u8]) -> StakeRead
-    ensures { result ≡ Stakes·read payload.now }
+pub fn read(payload: &[u8]) -> Result<Stake, Unread>
+    ensures { result ≡ read payload.now }
 {
     if payload.len() != 13 {
-        return StakeRead::Refused(Unread::OtherLength);
+        return Err(Unread::OtherLength);
     }
     let stake = apart(payload);
-    let crc = stake.crc;
-    if is_of(crc, &payload[..10]) {
-        if stake.status != 0x00 {
-            return StakeRead::Refused(Unread::WrongStatus);
-        }
-        return StakeRead::Taken(stake);
+    if !is_of(stake.crc, &payload[..10]) {
+        return Err(Unread::WrongCrc);
     }
-    StakeRead::Refused(Unread::WrongCrc)
+    if stake.status != 0x00 {
+        return Err(Unread::WrongStatus);
+    }
+    Ok(stake)
 }
 
 // Writes the inventory request, the data of a SendRecv.
-pub fn write(slots: Slots, out: &mut [u8]) -> Written
-    ensures { Is (Stakes·write slots out.old) result out.new }
+pub fn write(slots: Slots, out: &mut [u8]) -> Result<usize, Refusal>
+    ensures { Is (write slots out.old) result out.new }
 {
-    match slots {
-        Slots::One => frames::put(b"\x26", b"\x01", b"\x00", out),
-        Slots::Sixteen => frames::put(b"\x06", b"\x01", b"\x00", out),
-    }
+    let flags = match slots {
+        Slots::One => 0x26,
+        Slots::Sixteen => 0x06,
+    };
+    frames::put(&[flags, 0x01, 0x00], b"", b"", out)
 }

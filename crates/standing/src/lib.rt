@@ -2,40 +2,34 @@
 
 #![tactic(auto)]
 
-ghost use Rattle.text.specs.Writing.{Puts};
 ghost use Rattle.standing.specs.Standing.{state_name, state_text};
+ghost use Rattle.text.specs.Adding.{Adds};
 
-use model::{Calibration, Session, State};
+use model::{Session, State};
+use text::Text;
 
-fn put_name(text: &mut [u8], at: usize, state: State) -> usize
-    ensures { Puts text.old at (state_name state) result text.new }
+fn put_name(text: &mut Text, state: State)
+    ensures { Adds text.old (state_name state) text.new }
 {
     match state {
-        State::PowerUp => text::put(text, at, b" [power-up"),
-        State::Ready => text::put(text, at, b" [ready"),
-        State::Selected { protocol } => text::put_count(text, at, b" [selected", protocol as u64),
-        State::Waiting {
-            progress,
-            selected: _,
-        } => {
-            let awaited = progress.awaited;
-            let kind = awaited.kind;
-            let next = text::put(text, at, b" [waiting ");
-            calls::put_kind(text, next, kind)
+        State::PowerUp => text.put(b" [power-up"),
+        State::Ready => text.put(b" [ready"),
+        State::Selected { protocol } => text.put_count(b" [selected", protocol as u64),
+        State::Waiting { progress, .. } => {
+            text.put(b" [waiting ");
+            calls::put_kind(text, progress.awaited.kind);
         }
-        State::Lost => text::put(text, at, b" [lost"),
+        State::Lost => text.put(b" [lost"),
     }
 }
 
 // The state in brackets, and whether a calibration runs.
-pub fn put_state(text: &mut [u8], at: usize, s: Session) -> usize
-    ensures { Puts text.old at (state_text s) result text.new }
+pub fn put_state(text: &mut Text, s: Session)
+    ensures { Adds text.old (state_text s) text.new }
 {
-    let state = s.state;
-    let calibration = s.calibration;
-    let next = put_name(text, at, state);
-    match calibration {
-        Calibration::Off => text::put(text, next, b"]"),
-        Calibration::On { plan: _, search: _ } => text::put(text, next, b", calibrating]"),
+    put_name(text, s.state);
+    match s.calibration {
+        None => text.put(b"]"),
+        Some(_) => text.put(b", calibrating]"),
     }
 }

@@ -6,21 +6,14 @@ pub mod due;
 
 ghost use Rattle.std.specs.Prelude.{◌≡◌, []};
 ghost use Rattle.model.specs.Frames.{command};
-ghost use Rattle.model.specs.Session.{pulsed, is_waiting, is_running, busy, is_off, is_selected, protocol_of, unready, barred, asking};
+ghost use Rattle.model.specs.Session.{into, pulsed, is_waiting, busy, is_off, is_selected, protocol_of, unready, barred, asking};
 ghost use Rattle.states.specs.Leave.{leave};
 
 use model::{Calibration, Kind, Refusal, Session, State};
 
-// Whether a request is refused before it is written.
-#[derive(Clone, Copy)]
-pub enum Leave {
-    Given,
-    Refused(Refusal),
-}
-
 // The same session in another state, with a calibration or none.
-pub fn into(s: Session, state: State, calibration: Calibration) -> Session
-    ensures { result ≡ Rattle.model.specs.Session.into s state calibration }
+pub fn into(s: Session, state: State, calibration: Option<Calibration>) -> Session
+    ensures { result ≡ into s state calibration }
 {
     Session {
         state,
@@ -35,10 +28,7 @@ pub fn woken(state: State) -> State
 {
     match state {
         State::PowerUp => State::Ready,
-        State::Ready => State::Ready,
-        State::Selected { protocol } => State::Selected { protocol },
-        State::Waiting { progress, selected } => State::Waiting { progress, selected },
-        State::Lost => State::Lost,
+        _ => state,
     }
 }
 
@@ -46,126 +36,65 @@ pub fn woken(state: State) -> State
 fn is_waiting(state: State) -> bool
     ensures { result ≡ is_waiting state }
 {
-    match state {
-        State::PowerUp => false,
-        State::Ready => false,
-        State::Selected { protocol: _ } => false,
-        State::Waiting {
-            progress: _,
-            selected: _,
-        } => true,
-        State::Lost => false,
-    }
-}
-
-// A calibration runs.
-fn is_running(calibration: Calibration) -> bool
-    ensures { result ≡ is_running calibration }
-{
-    match calibration {
-        Calibration::Off => false,
-        Calibration::On { plan: _, search: _ } => true,
-    }
+    matches!(state, State::Waiting { .. })
 }
 
 // A reply is awaited, or a calibration runs.
 pub(crate) fn is_busy(s: Session) -> bool
     ensures { result ≡ busy s }
 {
-    let state = s.state;
-    if is_waiting(state) {
-        return true;
-    }
-    let calibration = s.calibration;
-    is_running(calibration)
+    is_waiting(s.state) || s.calibration.is_some()
 }
 
 // Power-up or Lost.
 pub(crate) fn is_off(state: State) -> bool
     ensures { result ≡ is_off state }
 {
-    match state {
-        State::PowerUp => true,
-        State::Ready => false,
-        State::Selected { protocol: _ } => false,
-        State::Waiting {
-            progress: _,
-            selected: _,
-        } => false,
-        State::Lost => true,
-    }
+    matches!(state, State::PowerUp | State::Lost)
 }
 
-// The protocol that is selected, 0 for none.
+// The protocol that is selected, 0 for none, as in the paper, where protocol 0 leads to Ready.
 pub fn protocol_of(state: State) -> u8
     ensures { result ≡ protocol_of state }
 {
     match state {
-        State::PowerUp => 0,
-        State::Ready => 0,
         State::Selected { protocol } => protocol,
-        State::Waiting {
-            progress: _,
-            selected: _,
-        } => 0,
-        State::Lost => 0,
+        _ => 0,
     }
 }
 
 fn is_selected(state: State) -> bool
     ensures { result ≡ is_selected state }
 {
-    match state {
-        State::PowerUp => false,
-        State::Ready => false,
-        State::Selected { protocol: _ } => true,
-        State::Waiting {
-            progress: _,
-            selected: _,
-        } => false,
-        State::Lost => false,
-    }
+    matches!(state, State::Selected { .. })
 }
 
 // Power-up or Lost, or SendRecv outside Selected.
 fn is_unready(state: State, kind: Kind) -> bool
     ensures { result ≡ unready state (command kind []) }
 {
-    if is_off(state) {
-        return true;
-    }
-    if kinds::are_same(kind, Kind::SendRecv) {
-        return !is_selected(state);
-    }
-    false
+    is_off(state) || kinds::are_same(kind, Kind::SendRecv) && !is_selected(state)
 }
 
 // SendRecv without data, with another protocol than 1.
 fn is_barred(state: State, kind: Kind, payload: &[u8]) -> bool
     ensures { result ≡ barred state (command kind payload.now) }
 {
-    if payload.len() != 0 {
-        return false;
-    }
-    if kinds::are_same(kind, Kind::SendRecv) {
-        return protocol_of(state) != 1;
-    }
-    false
+    kinds::are_same(kind, Kind::SendRecv) && payload.is_empty() && protocol_of(state) != 1
 }
 
-// The leave to send a command: 4, 3, 2.
-pub fn leave_for(s: Session, kind: Kind, payload: &[u8]) -> Leave
+// The leave to send a command, or why it is refused before it is written: 4, 3, 2.
+pub fn leave_for(s: Session, kind: Kind, payload: &[u8]) -> Result<(), Refusal>
     ensures { result ≡ leave (asking s (command kind payload.now)) }
 {
     if is_busy(s) {
-        return Leave::Refused(Refusal::Busy);
+        return Err(Refusal::Busy);
     }
-    let state = s.state;
-    if is_unready(state, kind) {
-        return Leave::Refused(Refusal::Unready);
+    if is_unready(s.state, kind) {
+        return Err(Refusal::Unready);
     }
-    if is_barred(state, kind, payload) {
-        return Leave::Refused(Refusal::Invalid);
+    if is_barred(s.state, kind, payload) {
+        return Err(Refusal::Invalid);
     }
-    Leave::Given
+    Ok(())
 }

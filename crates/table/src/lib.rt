@@ -7,7 +7,7 @@ ghost use Rattle.model.specs.declared.Form.{Form};
 ghost use Rattle.model.specs.declared.Phase.TheVariants.{Failed};
 ghost use Rattle.model.specs.declared.Form.TheVariants.{Counted};
 ghost use Rattle.table.specs.Errors.{mistaken};
-ghost use Rattle.model.specs.Replies.{is_error, is_received, data_length, is_event, any_event, wake_of, at_first, counting, at_second, at_event, is_to_come, at_data};
+ghost use Rattle.model.specs.Replies.{wrong, next, is_error, is_received, data_length, is_event, any_event, wake_of, at_first, counting, at_second, at_event, is_to_come, at_data};
 
 use model::{End, Form, Phase, Step, Wake};
 
@@ -16,7 +16,7 @@ pub const MOST_DATA: u16 = 528;
 
 // No reply has the byte at this place.
 fn wrong(place: usize, byte: u8) -> Step
-    ensures { result ≡ Rattle.model.specs.Replies.wrong place byte }
+    ensures { result ≡ wrong place byte }
 {
     Step::Over(End::Malformed { place, byte })
 }
@@ -32,16 +32,10 @@ fn any_event(source: u8) -> bool
 fn at_zero(form: Form) -> Step
     ensures { result ≡ at_first form 0x00 }
 {
-    let unknown = wrong(0, 0x00);
     match form {
-        Form::Exactly { count: _ } => Step::On(Phase::Counting { code: 0x00 }),
-        Form::Counted => unknown,
-        Form::Awake { source } => if any_event(source) {
-            Step::On(Phase::Counting { code: 0x00 })
-        } else {
-            unknown
-        },
-        Form::Single => unknown,
+        Form::Exactly { .. } => Step::On(Phase::Counting { code: 0x00 }),
+        Form::Awake { source } if any_event(source) => Step::On(Phase::Counting { code: 0x00 }),
+        _ => wrong(0, 0x00),
     }
 }
 
@@ -49,12 +43,9 @@ fn at_zero(form: Form) -> Step
 fn at_echo(form: Form) -> Step
     ensures { result ≡ at_first form 0x55 }
 {
-    let unknown = wrong(0, 0x55);
     match form {
-        Form::Exactly { count: _ } => unknown,
-        Form::Counted => unknown, // 55 may stand inside its data
-        Form::Awake { source: _ } => unknown,
         Form::Single => Step::Over(End::Good),
+        _ => wrong(0, 0x55), // it may stand inside the data of SendRecv's
     }
 }
 
@@ -63,12 +54,9 @@ fn at_received(form: Form, code: u8) -> Step
     requires { is_received code ≡ true }
     ensures { result ≡ at_first form code }
 {
-    let unknown = wrong(0, code);
     match form {
-        Form::Exactly { count: _ } => unknown,
         Form::Counted => Step::On(Phase::Counting { code }),
-        Form::Awake { source: _ } => unknown,
-        Form::Single => unknown,
+        _ => wrong(0, code),
     }
 }
 
@@ -77,16 +65,13 @@ fn at_error(form: Form, code: u8) -> Step
     requires { is_error code ≡ true }
     ensures { result ≡ at_first form code }
 {
-    let failed = Step::On(Phase::Failed { code });
     match form {
-        Form::Exactly { count: _ } => failed,
-        Form::Counted => failed,
-        Form::Awake { source: _ } => failed,
         Form::Single => wrong(0, code),
+        _ => Step::On(Phase::Failed { code }),
     }
 }
 
-// The table of error codes: a bit for each byte, from 8F down to 80.
+// The table of error codes: a bit for each byte, from 8F down to 80. Document 02 asks for a table or a mask in place of comparisons (P4).
 const ERRORS: u16 = 0b1111_1111_1110_1100;
 
 // The table marks the bytes that the paper does.
@@ -100,14 +85,10 @@ fn errors() -> u16
 fn is_error(byte: u8) -> bool
     ensures { result ≡ is_error byte }
 {
-    let table = errors();
-    if byte >> 4 == 0x8 {
-        return table >> (byte & 0x0F) & 1 == 1;
-    }
-    false
+    byte >> 4 == 0x8 && errors() >> (byte & 0x0F) & 1 == 1
 }
 
-// The first byte.
+// The first byte: a match with ranges for unknown codes, the form that document 01 names.
 fn first(form: Form, byte: u8) -> Step
     ensures { result ≡ at_first form byte }
 {
@@ -124,7 +105,7 @@ fn first(form: Form, byte: u8) -> Step
 
 // The byte behind an error code.
 fn close(code: u8, byte: u8) -> Step
-    ensures { (form : Form) → result ≡ Rattle.model.specs.Replies.next form (Failed code) byte }
+    ensures { (form : Form) → result ≡ next form (Failed code) byte }
 {
     if byte == 0x00 {
         return Step::Over(End::Error { code });
@@ -164,20 +145,11 @@ fn received(code: u8, byte: u8) -> Step
 fn second(form: Form, code: u8, byte: u8) -> Step
     ensures { result ≡ at_second form code byte }
 {
-    let malformed = wrong(1, byte);
     match form {
-        Form::Exactly { count } => if byte == count {
-            counted(byte as u16)
-        } else {
-            malformed
-        },
+        Form::Exactly { count } if byte == count => counted(byte as u16),
         Form::Counted => received(code, byte),
-        Form::Awake { source: _ } => if byte == 0x01 {
-            Step::On(Phase::Waking)
-        } else {
-            malformed
-        },
-        Form::Single => malformed,
+        Form::Awake { .. } if byte == 0x01 => Step::On(Phase::Waking),
+        _ => wrong(1, byte),
     }
 }
 
@@ -185,6 +157,7 @@ fn second(form: Form, code: u8, byte: u8) -> Step
 pub fn is_event(source: u8, event: u8) -> bool
     ensures { result ≡ is_event source event }
 {
+    // an arm for each, and not `source & event` for all: the proof tries the 256 sources of each event by themselves
     match event {
         0x01 => source & 0x01 != 0,
         0x02 => source & 0x02 != 0,
@@ -194,7 +167,7 @@ pub fn is_event(source: u8, event: u8) -> bool
     }
 }
 
-// What woke the chip.
+// What woke the chip; as the definition it answers for every byte, and is asked of events alone.
 fn wake_of(event: u8) -> Wake
     ensures { result ≡ wake_of event }
 {
@@ -210,18 +183,11 @@ fn wake_of(event: u8) -> Wake
 fn event(form: Form, byte: u8) -> Step
     ensures { result ≡ at_event form byte }
 {
-    let malformed = wrong(2, byte);
     match form {
-        Form::Exactly { count: _ } => malformed,
-        Form::Counted => malformed,
-        Form::Awake { source } => if is_event(source, byte) {
-            Step::Over(End::Woken {
-                wake: wake_of(byte),
-            })
-        } else {
-            malformed
-        },
-        Form::Single => malformed,
+        Form::Awake { source } if is_event(source, byte) => Step::Over(End::Woken {
+            wake: wake_of(byte),
+        }),
+        _ => wrong(2, byte),
     }
 }
 
@@ -236,21 +202,21 @@ pub fn is_to_come(have: u16, count: u16) -> bool
 fn data(have: u16, count: u16, byte: u8) -> Step
     ensures { result ≡ at_data have count byte }
 {
-    if is_to_come(have, count) {
-        if have + 1 == count {
-            return Step::Over(End::Good);
-        }
-        return Step::On(Phase::Data {
-            have: have + 1,
-            count,
-        });
+    if !is_to_come(have, count) {
+        return wrong(have as usize + 2, byte);
     }
-    wrong(have as usize + 2, byte)
+    if have + 1 == count {
+        return Step::Over(End::Good);
+    }
+    Step::On(Phase::Data {
+        have: have + 1,
+        count,
+    })
 }
 
 // Where a byte leads from a phase.
 pub fn next(form: Form, phase: Phase, byte: u8) -> Step
-    ensures { result ≡ Rattle.model.specs.Replies.next form phase byte }
+    ensures { result ≡ next form phase byte }
 {
     match phase {
         Phase::Begun => first(form, byte),

@@ -11,7 +11,7 @@ use Rattle.words.specs.Words.{concat}
 use Rattle.words.specs.Contract.{Ran}
 use Rattle.words.proofs.Contract.{one_outcome}
 use Rattle.text.specs.Writing.{placed, written}
-use Rattle.text.specs.Claims.{line, Joined, OneText}
+use Rattle.text.specs.Claims.{line, Joined, OneText, OneAddition}
 
 -- one part that fits
 fitting : (text part : List ℕ) (at : ℕ) → at + length part ≤ length text
@@ -38,3 +38,6 @@ joined text at (part ∷ parts) h =
 
 pub one_text : OneText
 one_text text at parts r r' exit exit' p q = one_outcome (written text at parts) r r' exit exit' p.is q.is
+
+pub one_addition : OneAddition
+one_addition old new new' parts p q = one_text old.bytes.now old.at parts new.at new'.at new.bytes.now new'.bytes.now p.puts q.puts

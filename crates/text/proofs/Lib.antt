@@ -1,4 +1,5 @@
 pub mod Decimal
 pub mod Writing
+pub mod Adding
 pub mod Joined
 pub mod Ending

@@ -5,6 +5,8 @@ use Rattle.words.specs.Words.{concat}
 use Rattle.words.specs.Contract.{Ran, OneOutcome}
 use Rattle.lines.specs.Lines.{fore}
 use Rattle.text.specs.Writing.{written, Puts}
+use Rattle.text.specs.Adding.{Adds}
+use Rattle.text.specs.declared.Text.{Text}
 
 -- a text up to the place behind what was written
 abbrev pub line : Ran ℕ → List ℕ
@@ -19,3 +21,8 @@ Joined =
 -- writing parts allows one answer, and one content of the text
 abbrev pub OneText : Type 0
 OneText = (text : List ℕ) (at : ℕ) (parts : List (List ℕ)) → OneOutcome (Puts text at parts)
+
+-- and so does adding them to a text: one place behind them, and one content of its buffer
+abbrev pub OneAddition : Type 0
+OneAddition =
+    (old new new' : Text) (parts : List (List ℕ)) → Adds old parts new → Adds old parts new' → (new.at ≡ new'.at) × (new.bytes.now ≡ new'.bytes.now)

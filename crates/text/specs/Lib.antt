@@ -1,3 +1,4 @@
 pub mod Writing
+pub mod Adding
 pub mod Claims
 pub mod Ending

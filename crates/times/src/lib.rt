@@ -4,9 +4,9 @@
 
 ghost use Rattle.std.specs.Prelude.{◌≡◌, ℕ, ◌*◌, ◌^◌, ◌≤◌};
 ghost use Rattle.model.specs.Frames.{prescaler};
-ghost use Rattle.model.specs.Times.{milliseconds, exactly, Timed, Waits};
+ghost use Rattle.model.specs.Times.{milliseconds, exactly, ticks, times, Timed, Waits};
 
-use model::{Refusal, Settings, Ticks, Times, Timing, Wait, Waited};
+use model::{Refusal, Settings, Ticks, Times, Wait, Waited};
 
 // A tick in milliseconds.
 const TICK: f32 = 0.03125;
@@ -19,7 +19,7 @@ fn power(source: u8) -> u16
 }
 
 fn ticks(s: Settings) -> Ticks
-    ensures { result ≡ Rattle.model.specs.Times.ticks s }
+    ensures { result ≡ ticks s }
 {
     let low = power(s.source) as u32;
     let reference = 256 * low;
@@ -35,14 +35,16 @@ fn ticks(s: Settings) -> Ticks
 }
 
 // A factor times a unit that is a whole number of ticks exactly.
+#[tactic(auto, using(crate::proofs::Product::by))]
 fn scaled(factor: u16, unit: f32) -> f32
     ensures { (n : ℕ) → exactly unit n → result ≡ milliseconds (factor * n) }
 {
     factor as f32 * unit
 }
 
+// The same in f32, product by product: the form that document 01 names.
 fn times(s: Settings) -> Times
-    ensures { result ≡ Rattle.model.specs.Times.times s }
+    ensures { result ≡ times s }
 {
     let low = scaled(power(s.source), TICK);
     let reference = scaled(256, low);
@@ -57,28 +59,25 @@ fn times(s: Settings) -> Times
     }
 }
 
-pub fn times_of(s: Settings) -> Timing
+// The times of allowed settings, in ticks and in milliseconds.
+pub fn times_of(s: Settings) -> Result<(Ticks, Times), Refusal>
     ensures { Timed s result }
 {
-    if settings::is_allowed(s) {
-        return Timing::Known {
-            ticks: ticks(s),
-            times: times(s),
-        };
+    if !settings::is_allowed(s) {
+        return Err(Refusal::Invalid);
     }
-    Timing::Refused(Refusal::Invalid)
+    Ok((ticks(s), times(s)))
 }
 
 // Without end where bit 0 of WU source is clear.
 pub fn wait_of(s: Settings) -> Waited
     ensures { Waits s result }
 {
-    if settings::is_allowed(s) {} else {
-        return Waited::Refused(Refusal::Invalid);
+    if !settings::is_allowed(s) {
+        return Err(Refusal::Invalid);
     }
     if s.source % 2 == 0 {
-        return Waited::Known(Wait::Endless);
+        return Ok(Wait::Endless);
     }
-    let known = times(s);
-    Waited::Known(Wait::After(known.timeout))
+    Ok(Wait::After(times(s).timeout))
 }

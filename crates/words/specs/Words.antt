@@ -1,10 +1,8 @@
 -- Words that every paper uses: a choice by a test, a bit of a byte, the numbers that pass a test, a part of a list, bytes laid or copied into a buffer.
 -- Assumes nothing.
-use Rattle.std.specs.Prelude.{ℕ, zero, suc, ◌+◌, ◌/◌, ◌%◌, ◌^◌, ◌<◌, ◌≡◌, Bool, true, false, ◌||◌, List, [], ◌∷◌, ◌++◌, ltb, leb, eqb, length, take, drop}
+use Rattle.std.specs.Prelude.{ℕ, zero, suc, ◌+◌, ◌/◌, ◌%◌, ◌^◌, ◌<◌, ◌≡◌, Bool, true, false, ◌||◌, List, [], ◌∷◌, ◌++◌, ltb, leb, eqb, length, take, drop, None, Option, Some}
 use Rattle.std.proofs.Math.Seq.{paste}
 use Rattle.words.specs.declared.Part.{Part}
-use Rattle.words.specs.declared.Laid.{Laid}
-use Rattle.words.specs.declared.Laid.TheVariants.{Short}
 use Rattle.words.specs.Contract.{Ran}
 
 -- the first where the test holds, the second where it does not
@@ -42,9 +40,9 @@ abbrev pub over : List ℕ → List ℕ → List ℕ
 over xs out = xs ++ drop (length xs) out
 
 -- where they fit
-abbrev pub laid : List ℕ → List ℕ → Ran Laid
+abbrev pub laid : List ℕ → List ℕ → Ran (Option ℕ)
 laid xs out =
-    pick (ltb (length out) (length xs)) (record { answer = Short; bytes = out }) (record { answer = Laid.Bytes (length xs); bytes = over xs out })
+    pick (ltb (length out) (length xs)) (record { answer = None; bytes = out }) (record { answer = Some (length xs); bytes = over xs out })
 
 -- each is a byte
 abbrev pub Bytes : List ℕ → Type 0

@@ -5,4 +5,4 @@ use Rattle.commands.proofs.Parts.{inside}
 use Rattle.commands.proofs.read_command.Goals as goal
 
 pub overflow_add-frame : goal.overflow_add-frame
-overflow_add-frame c = omega (arith, inside c.args.part.now c.read_first.ensures c.in-Taken.frame c.in-Taken.is)
+overflow_add-frame c = omega (arith, inside c.args.part.now c.read_first.ensures c.in_ok-frame.frame c.in_ok-frame.was)

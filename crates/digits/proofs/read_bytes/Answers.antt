@@ -1,46 +1,30 @@
--- What is left to read decides: from behind the blanks it has no byte, no pair, or a pair that finds room.
+-- What is left to read decides: from behind the blanks it has no byte, one byte, or a pair.
 -- Assumes nothing.
-use Rattle.std.proofs.Common.{sym, ◌∙◌, arith}
-use Rattle.digits.specs.declared.Bytes.TheVariants.{Are, Wrong}
-use Rattle.digits.proofs.Hex.{ended, at_end, at_one, at_no_pair, at_no_room, at_pair}
+use Rattle.std.proofs.Common.{arith}
+use Rattle.digits.proofs.Hex.{at_end, at_one, at_no_pair, at_no_room, at_room}
 use Rattle.digits.proofs.read_bytes.Goals as goal
 
-pub returns-then-line-start : goal.returns-then-line-start
-returns-then-line-start c =
+pub returns-in-empty : goal.returns-in-empty
+returns-in-empty c =
     let l = c.loop-from in
-    let s = c.skip-start in
-    ended (Are l.n) l.bytes
-    (sym l.invariant ∙ at_end c.args.line.now l.bytes l.i l.n s.result s.ensures c.if-line-start.true)
+    at_end c.args.line.now l.place l.bytes l.n c.skip-place.ensures c.after.ensures l.invariant c.in-empty.len_below
 
-pub returns-then-line-start-lt2 : goal.returns-then-line-start-lt2
-returns-then-line-start-lt2 c =
+pub returns-in_default : goal.returns-in_default
+returns-in_default c =
     let l = c.loop-from in
-    let s = c.skip-start in
-    ended (Wrong s.result) l.bytes
-    (sym l.invariant ∙ at_one c.args.line.now l.bytes l.i l.n s.result s.ensures (omega arith) (omega arith))
+    at_one c.args.line.now l.place l.bytes l.n c.skip-place.ensures c.after.ensures l.invariant c.in_default.len_at_least c.in_default.len_below
 
-pub returns-then-value-gt255 : goal.returns-then-value-gt255
-returns-then-value-gt255 c =
+pub returns-in_default-byte_of : goal.returns-in_default-byte_of
+returns-in_default-byte_of c =
     let l = c.loop-from in
-    let s = c.skip-start in
-    let v = c.byte_of-value in
-    ended (Wrong s.result) l.bytes
-    (sym l.invariant
-    ∙ at_no_pair c.args.line.now l.bytes l.i l.n s.result s.ensures (omega arith) v.result v.ensures c.if-value-gt255.true)
+    at_no_pair c.args.line.now l.place l.bytes l.n c.skip-place.ensures c.after.ensures l.invariant (omega arith) c.byte_of.ensures c.in_default-byte_of.is
 
 pub returns-then-bytes-n : goal.returns-then-bytes-n
 returns-then-bytes-n c =
     let l = c.loop-from in
-    let s = c.skip-start in
-    let v = c.byte_of-value in
-    ended (Wrong s.result) l.bytes
-    (sym l.invariant
-    ∙ at_no_room c.args.line.now l.bytes l.i l.n s.result s.ensures (omega arith) v.result v.ensures (omega arith) (omega arith))
+    at_no_room c.args.line.now l.place l.bytes l.n c.skip-place.ensures c.after.ensures l.invariant (omega arith) c.byte_of.ensures c.in-Some.value c.in-Some.is c.if-bytes-n.true
 
 pub loop-from-preserved : goal.loop-from-preserved
 loop-from-preserved c =
     let l = c.loop-from in
-    let s = c.skip-start in
-    let v = c.byte_of-value in
-    at_pair c.args.line.now l.bytes l.i l.n s.result s.ensures (omega arith) v.result v.ensures (omega arith) (omega arith)
-    ∙ l.invariant
+    at_room c.args.line.now l.place l.bytes l.n c.skip-place.ensures c.after.ensures l.invariant (omega arith) c.byte_of.ensures c.in-Some.value c.in-Some.is c.if-bytes-n.false

@@ -1,7 +1,7 @@
--- Each part is written behind the one before.
+-- The six numbers are written behind their name.
 -- Assumes nothing.
-use Rattle.text.proofs.Writing.{◌then◌}
+use Rattle.text.proofs.Adding.{◌then◌}
 use Rattle.durations.proofs.put_ticks.Goals as goal
 
 pub returns : goal.returns
-returns c = c.put-next.ensures then c.put_numbers-next.ensures then c.put_numbers.ensures
+returns c = c.put.ensures then c.put_numbers.ensures

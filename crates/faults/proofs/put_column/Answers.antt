@@ -5,7 +5,4 @@ use Rattle.faults.proofs.Telling.{column_is}
 use Rattle.faults.proofs.put_column.Goals as goal
 
 pub returns-then-place-lt18446744073709551615 : goal.returns-then-place-lt18446744073709551615
-returns-then-place-lt18446744073709551615 c =
-    let a = c.args in
-    let put = c.put_number in
-    column_is a.text.now a.at a.place put.result put.new.text (omega arith) put.ensures
+returns-then-place-lt18446744073709551615 c = column_is c.args.place (omega arith) c.put_number.ensures

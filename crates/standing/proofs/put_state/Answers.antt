@@ -1,7 +1,7 @@
 -- The state, then what closes the bracket while a calibration runs.
 -- Assumes nothing.
-use Rattle.text.proofs.Writing.{◌then◌}
+use Rattle.text.proofs.Adding.{◌then◌}
 use Rattle.standing.proofs.put_state.Goals as goal
 
-pub returns-in-On : goal.returns-in-On
-returns-in-On c = simp c.in-On.is (c.put_name-next.ensures then c.put-in-On.ensures)
+pub returns-in-Some : goal.returns-in-Some
+returns-in-Some c = simp c.in-Some.is (c.put_name.ensures then c.put-in-Some.ensures)

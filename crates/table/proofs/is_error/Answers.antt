@@ -19,7 +19,7 @@ looked table b = ap (λ (n : ℕ). nat_eq n 1) (and_mask (table / 2 ^ bit_and b 
 pub returns-then-byte-eq8 : goal.returns-then-byte-eq8
 returns-then-byte-eq8 c =
     let b = c.args.byte in
-    let table = c.errors-table.result in
+    let table = c.errors.result in
     looked table b
     ∙ ap (λ (s : Bool). s && bit (b % 16) table) (sym (eq-eqb (b / 16) 8 c.if-byte-eq8.true))
-    ∙ rule table c.errors-table.ensures b (omega arith)
+    ∙ rule table c.errors.ensures b (omega arith)

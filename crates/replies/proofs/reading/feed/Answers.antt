@@ -9,4 +9,4 @@ use Rattle.replies.proofs.reading.feed.Goals as goal
 pub answer-requires : goal.answer-requires
 answer-requires c =
     let a = c.args in
-    omega (arith, ap (λ (v : Walk). v.used) c.walk-w.ensures, used_most c.form_of.result (On a.progress.phase) a.piece.now)
+    omega (arith, ap (λ (v : Walk). v.used) c.walk-walk.ensures, used_most c.form_of.result (On a.progress.phase) a.piece.now)

@@ -4,6 +4,6 @@ use Rattle.model.specs.Frames.{command}
 use Rattle.session.proofs.Calls.{asks}
 use Rattle.session.proofs.requests.request.Goals as goal
 
-pub returns-in-Given : goal.returns-in-Given
-returns-in-Given c =
-    asks c.args.s (command c.args.kind c.args.payload.now) c.args.out.now c.leave_for.ensures c.in-Given.is c.write-written.ensures c.requested.ensures
+pub returns-in-Ok : goal.returns-in-Ok
+returns-in-Ok c =
+    asks c.args.s (command c.args.kind c.args.payload.now) c.args.out.now c.leave_for.ensures c.in-Ok.is c.write-written.ensures c.requested.ensures

@@ -1,0 +1,40 @@
+-- The first row of the code's table that has a name: the row that comes next is it, or the rows behind it decide.
+-- Assumes nothing.
+use Prim.Native.Nat.{ℕ, suc, ◌+◌, ◌<◌}
+use native.Mathlib.Numerals.{add-one}
+use mathlib.Core.Path.{◌≡◌, sym, ap, subst, ◌∙◌}
+use mathlib.Core.Bool.{Bool, true, false}
+use mathlib.Core.List.{List, [], ◌∷◌}
+use lib.ListN.{length, drop, get_or}
+use lib.Seq.{drop-cons}
+use denote.Ref.{Bor}
+use Rattle.std.specs.Prelude.{Option, Some, None}
+use Rattle.words.specs.Words.{pick}
+use Rattle.lines.specs.Lines.{same}
+use Rattle.calls.specs.declared.Verb.{Verb}
+use Rattle.calls.specs.declared.Shape.{Shape}
+
+-- a row of the code's table: the name, its call, and what this takes
+abbrev Named : Type 0
+Named = Bor (List ℕ) × Verb × Shape
+
+abbrev pub first : List ℕ → List Named → Option (Verb × Shape)
+first w [] = None
+first w (r ∷ rs) = pick (same w r.0.now) (Some (r.1, r.2)) (first w rs)
+
+module _ (w : List ℕ) (rs : List Named) (i : ℕ) (d : Named) {found : Option (Verb × Shape)} {b : Bool} (h : i < length rs)
+    (is : first w (drop i rs) ≡ found) (test : b ≡ same w (get_or rs i d).0.now) where
+  abbrev next : Named
+  next = get_or rs i d
+
+  step : pick (same w next.0.now) (Some (next.1, next.2)) (first w (drop (suc i) rs)) ≡ found
+  step = subst (λ (left : List Named). first w left ≡ found) (drop-cons rs i d h) is
+
+  chosen : {c : Bool} → b ≡ c → pick c (Some (next.1, next.2)) (first w (drop (suc i) rs)) ≡ found
+  chosen e = ap (λ (t : Bool). pick t (Some (next.1, next.2)) (first w (drop (suc i) rs))) (sym e ∙ test) ∙ step
+
+  pub taken : b ≡ true → Some (next.1, next.2) ≡ found
+  taken e = chosen e
+
+  pub passed : b ≡ false → first w (drop (i + 1) rs) ≡ found
+  passed e = rw (add-one i) (chosen e)
