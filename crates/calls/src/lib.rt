@@ -95,7 +95,7 @@ pub enum Fault {
     Above { given: usize, greatest: usize },
 }
 
-// A line read as a call, with its number and how many bytes it has.
+// A line read as a call, with its number and how many bytes it has. A call without a number has 0, as in `ended`.
 #[derive(Clone, Copy)]
 pub struct Asked {
     pub call: Verb,
@@ -115,7 +115,7 @@ pub struct Wrong {
 pub enum Shape {
     Nothing,
     Interface,
-    // a number, and so many bytes
+    // a number, and so many bytes; where none are wanted the line ends, and what stands there is told as such
     Numbered { greatest: usize, wanted: usize },
     Exactly { wanted: usize },
     // one byte or more: what is missing where there is none

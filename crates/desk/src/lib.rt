@@ -10,7 +10,8 @@ use calls::{Act, Buffer, Fault, Verb, Wrong};
 use model::Session;
 use text::Text;
 
-// The session, and how much of the output and of the reply room is lent.
+// The session, and how much of the output and of the reply room is lent: lengths and no slices, since the buffers stay the caller's from line to
+// line (`on_front`).
 #[derive(Clone, Copy)]
 pub struct Post {
     pub session: Session,

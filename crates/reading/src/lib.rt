@@ -29,7 +29,7 @@ fn ended(call: Verb, number: usize, line: &[u8], from: usize) -> Result<Asked, W
     })
 }
 
-// spi is 0, uart is 1.
+// spi is 0, uart is 1 (`acts::interface`).
 fn interface(call: Verb, line: &[u8], from: usize) -> Result<Asked, Wrong>
     ensures { result ≡ interfaced call line.now from }
 {
