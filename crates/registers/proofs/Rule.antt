@@ -1,8 +1,8 @@
 -- The rule of the table: what is listed of every value is what the paper permits, by one computed test over the whole table for each question asked of it.
 -- Assumes nothing.
 use Prim.Native.Nat.{ℕ, ◌<◌}
-use mathlib.Core.Path.{◌≡◌, refl}
-use mathlib.Core.Bool.{true, false}
+use mathlib.Core.Path.{◌≡◌, refl, ◌∙◌}
+use mathlib.Core.Bool.{Bool, true, false}
 use mathlib.Core.List.{[], ◌∷◌, map}
 use Rattle.words.specs.Words.{those}
 use Rattle.words.proofs.Words.{same_on_bytes}
@@ -41,3 +41,7 @@ tuning_listed = same_on_bytes (λ (v : ℕ). listed ranges (0x69, v, v, Write)) 
 pub window_listed : (v : ℕ) → v < 256 → listed ranges (0x3A, v, v, Write) ≡ is_window v
 unfolding ranges
 window_listed = same_on_bytes (λ (v : ℕ). listed ranges (0x3A, v, v, Write)) is_window tt
+
+-- what a look-up of a value as a window tells
+pub windowed : {r : Bool} → (v : ℕ) → v < 256 → r ≡ listed ranges (0x3A, v, v, Write) → r ≡ is_window v
+windowed v small told = told ∙ window_listed v small

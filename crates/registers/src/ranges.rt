@@ -82,7 +82,6 @@ fn is_set(register: u8, value: u8) -> bool
 }
 
 // A register is read, whatever it holds.
-#[tactic(auto, using(crate::proofs::Rule::read_listed))]
 pub fn is_read(register: u8) -> bool
     ensures { result ≡ is_read register }
 {
@@ -90,7 +89,6 @@ pub fn is_read(register: u8) -> bool
 }
 
 // The index is set to a value.
-#[tactic(auto, using(crate::proofs::Rule::index_listed))]
 pub fn is_index(value: u8) -> bool
     ensures { result ≡ is_index value }
 {
@@ -98,7 +96,6 @@ pub fn is_index(value: u8) -> bool
 }
 
 // ARC_B is given a value.
-#[tactic(auto, using(crate::proofs::Rule::tuning_listed))]
 pub fn is_tuning(value: u8) -> bool
     ensures { result ≡ is_tuning value }
 {
@@ -106,7 +103,6 @@ pub fn is_tuning(value: u8) -> bool
 }
 
 // The timer window is given a value.
-#[tactic(auto, using(crate::proofs::Rule::window_listed))]
 pub fn is_window(value: u8) -> bool
     ensures { result ≡ is_window value }
 {
