@@ -4,23 +4,15 @@ use Prim.Native.Nat.{ℕ, suc, ◌+◌, ◌<◌}
 use native.Mathlib.Numerals.{add-one}
 use mathlib.Core.Path.{◌≡◌, sym, ap, subst, ◌∙◌}
 use mathlib.Core.Bool.{Bool, true, false}
-use mathlib.Core.List.{List, [], ◌∷◌}
+use mathlib.Core.List.{List}
 use lib.ListN.{length, drop, get_or}
 use lib.Seq.{drop-cons}
-use denote.Ref.{Bor}
-use Rattle.std.specs.Prelude.{Option, Some, None}
+use Rattle.std.specs.Prelude.{Option, Some}
 use Rattle.words.specs.Words.{pick}
 use Rattle.lines.specs.Lines.{same}
 use Rattle.calls.specs.declared.Verb.{Verb}
 use Rattle.calls.specs.declared.Shape.{Shape}
-
--- a row of the code's table: the name, its call, and what this takes
-abbrev Named : Type 0
-Named = Bor (List ℕ) × Verb × Shape
-
-abbrev pub first : List ℕ → List Named → Option (Verb × Shape)
-first w [] = None
-first w (r ∷ rs) = pick (same w r.0.now) (Some (r.1, r.2)) (first w rs)
+use Rattle.calls.specs.Table.{Named, first}
 
 module _ (w : List ℕ) (rs : List Named) (i : ℕ) (d : Named) {found : Option (Verb × Shape)} {b : Bool} (h : i < length rs)
     (is : first w (drop i rs) ≡ found) (test : b ≡ same w (get_or rs i d).0.now) where

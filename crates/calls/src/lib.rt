@@ -5,6 +5,7 @@
 ghost use Rattle.std.specs.Prelude.{◌≡◌, [], ◌∷◌};
 ghost use Rattle.text.specs.Adding.{Adds};
 ghost use Rattle.calls.specs.Calls.{rows, kind_name, message_name, found};
+ghost use Rattle.calls.specs.Table.{first};
 
 use model::{Kind, Message};
 use text::Text;
@@ -188,31 +189,36 @@ const CODE: Shape = Shape::Led {
     missing: Fault::NoCode,
 };
 
-// Each name, its call, and what this takes.
+// Each name, its call, and what this takes; by first letters, so that those of a letter stand together.
 static ROWS: [(&[u8], Verb, Shape); 36] = [
+    (b"band", Verb::Tells(Question::Band), ONE),
+    (b"calibrate", Verb::Acts(Act::Calibrate), PLAN),
+    (b"command", Verb::Tells(Question::Command), Shape::Any),
+    (b"echo", Verb::Acts(Act::Sends(Kind::Echo)), Shape::Nothing),
+    (b"feed", Verb::Feeds, Shape::Any),
+    (b"flags", Verb::Tells(Question::Flags), ONE),
+    (b"help", Verb::Helps, Shape::Nothing),
+    (b"idn", Verb::Acts(Act::Sends(Kind::Idn)), Shape::Nothing),
+    (b"idle", Verb::Acts(Act::Sends(Kind::Idle)), SETTINGS),
+    (b"inventory", Verb::Acts(Act::Inventory), NUMBER),
+    (b"next", Verb::Acts(Act::Next), Shape::Nothing),
+    (b"out", Verb::Sets(Buffer::Out), LENGTH),
     (b"power-on", Verb::Acts(Act::PowerOn), Shape::Interface),
     (b"pulse", Verb::Acts(Act::Pulse), Shape::Nothing),
-    (b"idn", Verb::Acts(Act::Sends(Kind::Idn)), Shape::Nothing),
+    (b"poll", Verb::Acts(Act::Poll), Shape::Nothing),
+    (b"reset", Verb::Acts(Act::Reset), Shape::Nothing),
+    (b"read", Verb::Acts(Act::Read), NUMBER),
+    (b"received", Verb::Tells(Question::Received), Shape::Any),
+    (b"rdreg", Verb::Acts(Act::Sends(Kind::RdReg)), ONE),
+    (b"room", Verb::Sets(Buffer::Room), LENGTH),
     (
         b"select",
         Verb::Acts(Act::Sends(Kind::ProtocolSelect)),
         PROTOCOL,
     ),
     (b"send", Verb::Acts(Act::Sends(Kind::SendRecv)), Shape::Any),
-    (b"idle", Verb::Acts(Act::Sends(Kind::Idle)), SETTINGS),
-    (b"echo", Verb::Acts(Act::Sends(Kind::Echo)), Shape::Nothing),
-    (b"reset", Verb::Acts(Act::Reset), Shape::Nothing),
-    (b"poll", Verb::Acts(Act::Poll), Shape::Nothing),
-    (b"read", Verb::Acts(Act::Read), NUMBER),
-    (b"calibrate", Verb::Acts(Act::Calibrate), PLAN),
-    (b"next", Verb::Acts(Act::Next), Shape::Nothing),
-    (b"feed", Verb::Feeds, Shape::Any),
+    (b"stake", Verb::Tells(Question::Stake), Shape::Any),
     (b"times", Verb::Tells(Question::Times), SETTINGS),
-    (b"wait", Verb::Tells(Question::Wait), SETTINGS),
-    (b"band", Verb::Tells(Question::Band), ONE),
-    (b"command", Verb::Tells(Question::Command), Shape::Any),
-    (b"flags", Verb::Tells(Question::Flags), ONE),
-    (b"received", Verb::Tells(Question::Received), Shape::Any),
     (
         b"usb-idn",
         Verb::Speaks(Board::Asks(Message::Idn)),
@@ -247,20 +253,38 @@ static ROWS: [(&[u8], Verb, Shape); 36] = [
     (b"usb-answer", Verb::Speaks(Board::Answers), CODE),
     (b"usb-error", Verb::Speaks(Board::Fails), ONE),
     (b"usb-reply", Verb::Speaks(Board::Replies), CODE),
-    (b"rdreg", Verb::Acts(Act::Sends(Kind::RdReg)), ONE),
+    (b"wait", Verb::Tells(Question::Wait), SETTINGS),
     (b"wrreg", Verb::Acts(Act::Sends(Kind::WrReg)), Shape::Any),
-    (b"inventory", Verb::Acts(Act::Inventory), NUMBER),
-    (b"stake", Verb::Tells(Question::Stake), Shape::Any),
-    (b"out", Verb::Sets(Buffer::Out), LENGTH),
-    (b"room", Verb::Sets(Buffer::Room), LENGTH),
-    (b"help", Verb::Helps, Shape::Nothing),
 ];
+
+// The rows among which a word is to be found, by its first letter.
+fn candidates(word: &[u8]) -> &'static [(&'static [u8], Verb, Shape)]
+    ensures { first word.now result.now ≡ found word.now rows }
+{
+    match lines::at(word, 0) {
+        b'b' => &ROWS[0..1],
+        b'c' => &ROWS[1..3],
+        b'e' => &ROWS[3..4],
+        b'f' => &ROWS[4..6],
+        b'h' => &ROWS[6..7],
+        b'i' => &ROWS[7..10],
+        b'n' => &ROWS[10..11],
+        b'o' => &ROWS[11..12],
+        b'p' => &ROWS[12..15],
+        b'r' => &ROWS[15..20],
+        b's' => &ROWS[20..23],
+        b't' => &ROWS[23..24],
+        b'u' => &ROWS[24..34],
+        b'w' => &ROWS[34..36],
+        _ => &[],
+    }
+}
 
 // The call that a word names, and what it takes.
 pub fn call_of(word: &[u8]) -> Option<(Verb, Shape)>
     ensures { result ≡ found word.now rows }
 {
-    for (name, call, shape) in &ROWS {
+    for (name, call, shape) in candidates(word) {
         if lines::are_same(word, name) {
             return Some((*call, *shape));
         }

@@ -35,18 +35,18 @@ fn lend(post: Post, buffer: Buffer, n: usize) -> Post
     }
 }
 
+// What is kept of a session has a name of its own before it is given away, here and below: so the record is copied whole, and not field by field.
 fn act(what: Act, post: Post, number: usize, given: &[u8], out: &mut [u8], text: &mut [u8]) -> Done
     ensures { Is (act_told post (acting post what number given.now out.old) text.old) result text.new × (out.new ≡ (acting post what number given.now out.old).bytes) }
 {
-    let outcome = acts::act_on(what, post.session, number, given, out, post.out);
+    let s = post.session;
+    let outcome = acts::act_on(what, s, number, given, out, post.out);
+    let s = outcome.session;
     let mut text = Text { bytes: text, at: 0 };
     answers::put_answer(&mut text, outcome.answer, out);
-    standing::put_state(&mut text, outcome.session);
+    standing::put_state(&mut text, s);
     Done {
-        post: Post {
-            session: outcome.session,
-            ..post
-        },
+        post: Post { session: s, ..post },
         n: text.at,
     }
 }
@@ -54,16 +54,15 @@ fn act(what: Act, post: Post, number: usize, given: &[u8], out: &mut [u8], text:
 fn feed(post: Post, piece: &[u8], room: &mut [u8], text: &mut [u8]) -> Done
     ensures { Is (feed_told post piece.now (feeding post piece.now room.old) text.old) result text.new × (room.new ≡ (feeding post piece.now room.old).bytes) }
 {
-    let outcome = acts::feed_on(post.session, piece, room, post.room);
+    let s = post.session;
+    let outcome = acts::feed_on(s, piece, room, post.room);
+    let s = outcome.session;
     let mut text = Text { bytes: text, at: 0 };
     answers::put_answer(&mut text, outcome.answer, b"");
     answers::put_used(&mut text, outcome.used, outcome.place, piece, room);
-    standing::put_state(&mut text, outcome.session);
+    standing::put_state(&mut text, s);
     Done {
-        post: Post {
-            session: outcome.session,
-            ..post
-        },
+        post: Post { session: s, ..post },
         n: text.at,
     }
 }
@@ -71,9 +70,10 @@ fn feed(post: Post, piece: &[u8], room: &mut [u8], text: &mut [u8]) -> Done
 fn set(post: Post, buffer: Buffer, length: usize, text: &mut [u8]) -> Done
     ensures { Is (set_told post buffer length text.old) result text.new }
 {
+    let s = post.session;
     let mut text = Text { bytes: text, at: 0 };
     text.put(b"ok");
-    standing::put_state(&mut text, post.session);
+    standing::put_state(&mut text, s);
     Done {
         post: lend(post, buffer, length),
         n: text.at,

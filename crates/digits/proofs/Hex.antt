@@ -1,19 +1,19 @@
 -- Pairs read at a place: past the blanks, the end of the line, what is no pair, and a byte more.
 -- Assumes nothing.
-use Prim.Native.Nat.{ℕ, ◌+◌, ◌≤◌, ◌<◌}
+use Prim.Native.Nat.{ℕ, ◌+◌, ◌-◌, ◌≤◌, ◌<◌}
 use native.Mathlib.Numerals.{one-add}
 use native.Mathlib.Omega.{arith}
 use mathlib.Core.Path.{◌≡◌, refl, sym, ap, ◌∙◌, subst⁻¹}
 use mathlib.Core.Bool.{Bool, true, false}
 use mathlib.Core.List.{List, [], ◌∷◌}
-use lib.Dec.{ltb}
-use lib.ListN.{length, drop, get_or, set}
-use lib.Seq.{drop-drop}
-use borrow.Author.Tests.{lt-ltb, le-ltb}
+use lib.Dec.{leb, ltb}
+use lib.ListN.{length, take, drop, get_or, set}
+use Rattle.std.proofs.lemmas.List.{length-drop, drop_all, take_all}
+use borrow.Author.Tests.{lt-ltb, le-ltb, leb-true, leb-false}
 use Rattle.std.specs.Prelude.{Option, Some, None, Result, Ok, Err}
 use Rattle.words.specs.Words.{pick}
 use Rattle.words.specs.Contract.{Ran, Is}
-use Rattle.lines.specs.Lines.{blank, blanks, rest, skipped}
+use Rattle.lines.specs.Lines.{blank, blanks, rest}
 use Rattle.digits.specs.Hex.{byte_of, with_byte, stopped, read_on}
 
 -- a call that did what a value says
@@ -82,48 +82,98 @@ module _ (place : ℕ) (buffer : List ℕ) (n : ℕ) where
   pair (x ∷ []) e h = absurd (omega arith)
   pair (x ∷ y ∷ xs) e h = simp (not_blank x (y ∷ xs) e)
 
--- what is left where the blanks behind a place i end
-behind : (line : List ℕ) (i start : ℕ) (left : List ℕ) → start ≡ skipped line i → left ≡ rest line start → drop (blanks (drop i line)) (drop i line) ≡ left
-behind line i start left is part = drop-drop (blanks (drop i line)) i line ∙ ap (λ (k : ℕ). drop k line) (sym is) ∙ sym part
+-- blanks are some of the bytes
+some : (x : ℕ) (xs : List ℕ) (b : Bool) → blanks xs ≤ length xs → pick b (1 + blanks xs) 0 ≤ length (x ∷ xs)
+some x xs true h = omega arith
+some x xs false h = omega arith
 
-unblank : (line : List ℕ) (i start : ℕ) (left : List ℕ) → start ≡ skipped line i → left ≡ rest line start → blanks left ≡ 0
-unblank line i start left is part = ap blanks (sym (behind line i start left is part)) ∙ no_blanks (drop i line)
+blanks_fit : (xs : List ℕ) → blanks xs ≤ length xs
+blanks_fit [] = omega arith
+blanks_fit (x ∷ xs) = some x xs (blank x) (blanks_fit xs)
 
--- from a place i on, with n bytes in
-module _ (line : List ℕ) (i : ℕ) (buffer : List ℕ) (n : ℕ) {start : ℕ} {left : List ℕ} {r : Ran (Result ℕ ℕ)} (is : start ≡ skipped line i)
-    (part : left ≡ rest line start) (so_far : read_on (drop i line) i buffer n ≡ r) where
-  here : read_on left start buffer n ≡ r
+-- a place in a line is as many bytes before its end as are left
+pub from_place : (line : List ℕ) (from : ℕ) (buffer : List ℕ)
+    → read_on (drop from line) (length line - length (drop from line)) buffer 0 ≡ read_on (drop from line) from buffer 0
+from_place line from buffer = go (leb from (length line)) refl
+  where
+    left : length (drop from line) ≡ length line - from
+    left = length-drop from line
+
+    go : (b : Bool) → leb from (length line) ≡ b
+        → read_on (drop from line) (length line - length (drop from line)) buffer 0 ≡ read_on (drop from line) from buffer 0
+    go true t =
+        let h = leb-true from (length line) t in
+        let same : length line - length (drop from line) ≡ from = omega (arith, left, h) in
+        ap (λ (k : ℕ). read_on (drop from line) k buffer 0) same
+    go false t =
+        let h = leb-false from (length line) t in
+        let none : drop from line ≡ [] = drop_all from line (omega (arith, h)) in
+        subst⁻¹ (λ (l : List ℕ). read_on l (length line - length l) buffer 0 ≡ read_on l from buffer 0) none refl
+
+pub no_longer : (line : List ℕ) (from : ℕ) → length (drop from line) ≤ length line
+no_longer line from = let left : length (drop from line) ≡ length line - from = length-drop from line in omega arith
+
+-- what is left behind a pair
+pub behind_pair : (left : List ℕ) → take (length left - 2) (drop 2 left) ≡ drop 2 left
+behind_pair left = let two = length-drop 2 left in take_all (length left - 2) (drop 2 left) (omega (arith, two))
+
+-- what is left of a line where its blanks end, with n bytes in
+module _ (line before : List ℕ) (buffer : List ℕ) (n : ℕ) {left : List ℕ} {r : Ran (Result ℕ ℕ)} (part : left ≡ rest before (blanks before))
+    (fits : length before ≤ length line) (so_far : read_on before (length line - length before) buffer n ≡ r) where
+  abbrev place : ℕ
+  place = length line - length left
+
+  shorter : length left ≡ length before - blanks before
+  shorter = ap length part ∙ length-drop (blanks before) before
+
+  pub within : length left ≤ length line
+  within = let e = shorter in omega arith
+
+  -- and of what was left before
+  pub no_more : length left ≤ length before
+  no_more = let e = shorter in omega arith
+
+  unblank : blanks left ≡ 0
+  unblank = ap blanks part ∙ no_blanks before
+
+  here : read_on left place buffer n ≡ r
   here =
-      ap (λ (l : List ℕ). read_on l start buffer n) (sym (behind line i start left is part))
-      ∙ ap (λ (k : ℕ). read_on (drop (blanks (drop i line)) (drop i line)) k buffer n) is
-      ∙ sym (read_past (drop i line) i buffer n)
+      let e = shorter in
+      let some = blanks_fit before in
+      let moved : length line - length before + blanks before ≡ place = omega arith in
+      ap (λ (l : List ℕ). read_on l place buffer n) part
+      ∙ ap (λ (k : ℕ). read_on (drop (blanks before) before) k buffer n) (sym moved)
+      ∙ sym (read_past before (length line - length before) buffer n)
       ∙ so_far
 
   pub at_end : length left < 1 → Is r (Ok n) buffer
-  at_end h = ended (sym here ∙ nothing start buffer n left h)
+  at_end h = ended (sym here ∙ nothing place buffer n left h)
 
-  pub at_one : 1 ≤ length left → length left < 2 → Is r (Err start) buffer
-  at_one h l = ended (sym here ∙ one start buffer n left (unblank line i start left is part) h l)
+  pub at_one : 1 ≤ length left → length left < 2 → Is r (Err place) buffer
+  at_one h l = ended (sym here ∙ one place buffer n left unblank h l)
 
   module _ (h : 2 ≤ length left) {b : Option ℕ} (byte : b ≡ byte_of (get_or left 0 0) (get_or left 1 0)) where
-    at_pair : with_byte b (put start buffer n left) (stopped start buffer) ≡ r
+    at_pair : with_byte b (put place buffer n left) (stopped place buffer) ≡ r
     at_pair =
-        ap (λ (o : Option ℕ). with_byte o (put start buffer n left) (stopped start buffer)) byte
-        ∙ sym (pair start buffer n left (unblank line i start left is part) h)
+        ap (λ (o : Option ℕ). with_byte o (put place buffer n left) (stopped place buffer)) byte
+        ∙ sym (pair place buffer n left unblank h)
         ∙ here
 
-    pub at_no_pair : b ≡ None → Is r (Err start) buffer
-    at_no_pair e = ended (sym at_pair ∙ ap (λ (o : Option ℕ). with_byte o (put start buffer n left) (stopped start buffer)) e)
+    pub at_no_pair : b ≡ None → Is r (Err place) buffer
+    at_no_pair e = ended (sym at_pair ∙ ap (λ (o : Option ℕ). with_byte o (put place buffer n left) (stopped place buffer)) e)
 
-    at_byte : (value : ℕ) → b ≡ Some value → put start buffer n left value ≡ r
-    at_byte value e = ap (λ (o : Option ℕ). with_byte o (put start buffer n left) (stopped start buffer)) (sym e) ∙ at_pair
+    at_byte : (value : ℕ) → b ≡ Some value → put place buffer n left value ≡ r
+    at_byte value e = ap (λ (o : Option ℕ). with_byte o (put place buffer n left) (stopped place buffer)) (sym e) ∙ at_pair
 
-    pub at_no_room : (value : ℕ) → b ≡ Some value → length buffer ≤ n → Is r (Err start) buffer
+    pub at_no_room : (value : ℕ) → b ≡ Some value → length buffer ≤ n → Is r (Err place) buffer
     at_no_room value e m = ended (sym (at_byte value e) ∙ simp (le-ltb n (length buffer) m))
 
     pub at_room : (value : ℕ) → b ≡ Some value → n < length buffer
-        → read_on (drop (start + 2) line) (start + 2) (set buffer n value) (n + 1) ≡ r
+        → read_on (drop 2 left) (length line - length (drop 2 left)) (set buffer n value) (n + 1) ≡ r
     at_room value e m =
-        ap (λ (l : List ℕ). read_on l (start + 2) (set buffer n value) (n + 1)) (sym (ap (drop 2) part ∙ drop-drop 2 start line))
+        let w = within in
+        let two : length (drop 2 left) ≡ length left - 2 = length-drop 2 left in
+        let moved : length line - length (drop 2 left) ≡ place + 2 = omega arith in
+        ap (λ (k : ℕ). read_on (drop 2 left) k (set buffer n value) (n + 1)) moved
         ∙ sym (simp (lt-ltb n (length buffer) m))
         ∙ at_byte value e

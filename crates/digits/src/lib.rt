@@ -27,29 +27,29 @@ fn byte_of(high: u8, low: u8) -> Option<u8>
 }
 
 // Reads pairs of hex digits up to the end of the line, to the front of bytes: how many there are, or the place that is no pair or has no room.
-// A place is all that is known here of what is wrong, and all that the error has. The loop goes by places for that, and blanks between pairs are of
-// any number, so that no iterator of pairs would do.
+// A place is all that is known here of what is wrong, and all that the error has: as many bytes before the line's end as are left. Blanks between
+// pairs are of any number, so that no iterator of pairs would do.
 pub fn read_bytes(line: &[u8], from: usize, bytes: &mut [u8]) -> Result<usize, usize>
     ensures { Is (read_bytes line.now from bytes.old) result bytes.new }
 {
-    let mut place = from;
+    let mut rest = lines::after(line, from);
     let mut n = 0;
     loop {
-        place = lines::skip(line, place);
-        match lines::after(line, place) {
+        rest = lines::past_blanks(rest);
+        match rest {
             [] => return Ok(n),
             [high, low, ..] => {
                 let Some(value) = byte_of(*high, *low) else {
-                    return Err(place);
+                    return Err(line.len() - rest.len());
                 };
                 if bytes.len() <= n {
-                    return Err(place);
+                    return Err(line.len() - rest.len());
                 }
                 bytes[n] = value;
                 n += 1;
-                place += 2;
+                rest = &rest[2..];
             }
-            _ => return Err(place),
+            _ => return Err(line.len() - rest.len()),
         }
     }
 }

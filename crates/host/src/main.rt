@@ -83,8 +83,8 @@ impl Keeper {
         }
     }
 
-    // Answers the line that is in, and begins the next.
-    fn answer(&mut self, rt: &HostRuntime) -> Result<(), Failure> {
+    // Answers the line that is in, and begins the next. It fails by its write alone.
+    fn answer(&mut self, rt: &HostRuntime) -> io::Result<()> {
         self.count = self.count.saturating_add(1);
         let done = desk::answer(
             trimmed(lines::front(&self.line, self.n)),
@@ -100,7 +100,7 @@ impl Keeper {
         if lines::front(&self.text, done.n).starts_with(b"error:") {
             self.errors = self.errors.saturating_add(1);
         }
-        tell(rt, &mut self.text, done.n).map_err(Failure::Write)
+        tell(rt, &mut self.text, done.n)
     }
 
     // Keeps a part of the next line, as far as there is room.
@@ -115,7 +115,7 @@ impl Keeper {
     }
 
     // Answers each line that ends in what was read, and keeps what comes behind the last.
-    fn take(&mut self, rt: &HostRuntime, read: &[u8]) -> Result<(), Failure> {
+    fn take(&mut self, rt: &HostRuntime, read: &[u8]) -> io::Result<()> {
         let mut rest = read;
         while let Some(end) = rest.iter().position(|byte| *byte == b'\n') {
             self.keep(&rest[..end]);
@@ -134,10 +134,10 @@ impl Keeper {
             if n == 0 {
                 break;
             }
-            self.take(rt, &buffer[..n])?;
+            self.take(rt, &buffer[..n]).map_err(Failure::Write)?;
         }
         if self.n > 0 {
-            self.answer(rt)?;
+            self.answer(rt).map_err(Failure::Write)?;
         }
         Ok(())
     }

@@ -4,20 +4,22 @@
 
 ghost use Rattle.std.specs.Prelude.{◌≡◌, ◌≤◌, ℕ, not, length};
 ghost use Rattle.std.specs.List.{prefix_len};
-ghost use Rattle.lines.specs.Lines.{fore, rest, byte_at, blank, skipped, word_end, same, is_word};
+ghost use Rattle.lines.specs.Lines.{fore, rest, byte_at, blank, blanks, skipped, word_end, same, is_word};
 
 // The first n bytes, or all where there are fewer.
+#[tactic(auto, using(std::proofs::lemmas::List::take_min))]
 pub fn front(bytes: &[u8], n: usize) -> &[u8]
     ensures { result.now ≡ fore bytes.now n }
 {
-    bytes.get(..n).unwrap_or(bytes)
+    &bytes[..n.min(bytes.len())]
 }
 
 // The bytes from a place on, none past the end.
+#[tactic(auto, using(std::proofs::lemmas::List::drop_min))]
 pub fn after(bytes: &[u8], from: usize) -> &[u8]
     ensures { result.now ≡ rest bytes.now from }
 {
-    bytes.get(from..).unwrap_or(&[])
+    &bytes[from.min(bytes.len())..]
 }
 
 // The byte at a place, a blank past the end, as a line is read; `settings` reads a missing byte of data as 0.
@@ -45,6 +47,14 @@ fn word_length(bytes: &[u8]) -> usize
     ensures { (result ≡ prefix_len (λ (x : ℕ). not (blank x)) bytes.now) × (result ≤ length bytes.now) }
 {
     bytes.iter().take_while(|byte| !is_blank(**byte)).count()
+}
+
+// What comes behind the first blanks.
+#[tactic(auto, using(crate::proofs::Lines::blanks_first))]
+pub fn past_blanks(bytes: &[u8]) -> &[u8]
+    ensures { result.now ≡ rest bytes.now (blanks bytes.now) }
+{
+    &bytes[blanks(bytes)..]
 }
 
 // The first place from one on that is no blank.

@@ -42,6 +42,10 @@ pub window_listed : (v : ℕ) → v < 256 → listed ranges (0x3A, v, v, Write) 
 unfolding ranges
 window_listed = same_on_bytes (λ (v : ℕ). listed ranges (0x3A, v, v, Write)) is_window tt
 
--- what a look-up of a value as a window tells
+-- what a look-up of a value tells, as one of ARC_B and as a window
+
+pub tuned : {r : Bool} → (v : ℕ) → v < 256 → r ≡ listed ranges (0x69, v, v, Write) → r ≡ is_tuning v
+tuned v small told = told ∙ tuning_listed v small
+
 pub windowed : {r : Bool} → (v : ℕ) → v < 256 → r ≡ listed ranges (0x3A, v, v, Write) → r ≡ is_window v
 windowed v small told = told ∙ window_listed v small

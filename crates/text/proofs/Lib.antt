@@ -3,3 +3,4 @@ pub mod Writing
 pub mod Adding
 pub mod Joined
 pub mod Ending
+pub mod Bytes

@@ -2,7 +2,8 @@
 
 #![tactic(auto)]
 
-ghost use Rattle.std.specs.Prelude.{◌≡◌, [], ◌∷◌, ◌<◌};
+ghost use Rattle.std.specs.Prelude.{◌≡◌, [], ◌∷◌, ◌<◌, ◌≤◌, ◌+◌, length};
+ghost use Rattle.std.proofs.Math.Seq.{paste};
 ghost use Rattle.text.specs.Adding.{Adds};
 ghost use Rattle.text.specs.Writing.{glyph, hex, hexes, number};
 
@@ -25,33 +26,56 @@ fn glyph(digit: u8) -> u8
     }
 }
 
+// A blank and a byte as two digits.
+fn hex(byte: u8) -> [u8; 3]
+    ensures { result ≡ hex byte }
+{
+    [b' ', glyph(byte / 16), glyph(byte % 16)]
+}
+
+// Lays a part at a place where there is room for it.
+fn lay(part: &[u8], text: &mut [u8], at: usize)
+    requires { at + length part.now ≤ length text.old }
+    ensures { text.new ≡ paste text.old at part.now (length part.now) }
+{
+    text[at..at + part.len()].copy_from_slice(part);
+}
+
 impl Text<'_> {
     // Puts a part, where it fits, and moves behind it.
     pub fn put(&mut self, part: &[u8])
         ensures { Adds self.old (part.now ∷ []) self.new }
     {
-        if self.bytes.len() < self.at || self.bytes.len() - self.at < part.len() {
+        let Some(end) = self.at.checked_add(part.len()) else {
+            return;
+        };
+        if self.bytes.len() < end {
             return;
         }
-        buffers::copy_at(part, self.bytes, self.at);
-        self.at += part.len();
+        lay(part, self.bytes, self.at);
+        self.at = end;
     }
 
     // Puts a blank and a byte as two digits.
     pub fn put_byte(&mut self, byte: u8)
         ensures { Adds self.old (hex byte ∷ []) self.new }
     {
-        let pair = [b' ', glyph(byte / 16), glyph(byte % 16)];
-        self.put(&pair);
+        self.put(&hex(byte));
     }
 
-    // Puts bytes one behind the other, as far as there is room.
+    // Puts bytes one behind the other, as far as there is room. How many find room is reckoned once, since long answers are bytes.
     pub fn put_bytes(&mut self, bytes: &[u8])
         ensures { Adds self.old (hexes bytes.now) self.new }
     {
-        for byte in bytes {
-            self.put_byte(*byte);
+        let room = self.bytes.len().saturating_sub(self.at);
+        let fitting = &bytes[..bytes.len().min(room / 3)];
+        let text = &mut *self.bytes;
+        let mut at = self.at;
+        for byte in fitting {
+            lay(&hex(*byte), text, at);
+            at += 3;
         }
+        self.at = at;
     }
 
     // Puts a blank and a decimal number.

@@ -1,11 +1,10 @@
 -- The row at hand is the one, or those behind it decide.
 -- Assumes nothing.
-use Rattle.std.proofs.Common.{refl}
 use Rattle.calls.proofs.Table.{taken, passed}
 use Rattle.calls.proofs.call_of.Goals as goal
 
 pub loop-name-init : goal.loop-name-init
-loop-name-init c = refl
+loop-name-init c = c.candidates-name-items.ensures
 
 pub returns-then-are_same : goal.returns-then-are_same
 returns-then-are_same c =

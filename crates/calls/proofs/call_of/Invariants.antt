@@ -2,7 +2,7 @@
 -- Assumes nothing.
 use Rattle.std.proofs.Common.{◌≡◌, drop}
 use Rattle.calls.specs.Calls.{found, rows}
-use Rattle.calls.proofs.Table.{first}
+use Rattle.calls.specs.Table.{first}
 use Rattle.calls.proofs.call_of.Given as goal
 
 abbrev pub invariant-loop-name : goal.invariant-loop-name
