@@ -4,12 +4,12 @@ use Prim.Native.Nat.{ℕ, suc, ◌+◌, ◌<◌}
 use native.Mathlib.Numerals.{add-one}
 use mathlib.Core.Path.{◌≡◌, sym, ap, subst, ◌∙◌}
 use mathlib.Core.Bool.{Bool, true, false}
-use mathlib.Core.List.{List}
+use mathlib.Core.List.{List, [], ◌∷◌}
 use lib.ListN.{length, drop, get_or}
 use lib.Seq.{drop-cons}
 use Rattle.std.specs.Prelude.{Option, Some}
 use Rattle.words.specs.Words.{pick}
-use Rattle.lines.specs.Lines.{same}
+use Rattle.lines.specs.Lines.{same, byte_at}
 use Rattle.calls.specs.declared.Verb.{Verb}
 use Rattle.calls.specs.declared.Shape.{Shape}
 use Rattle.calls.specs.Table.{Named, first}
@@ -30,3 +30,8 @@ module _ (w : List ℕ) (rs : List Named) (i : ℕ) (d : Named) {found : Option 
 
   pub passed : b ≡ false → first w (drop (i + 1) rs) ≡ found
   passed e = rw (add-one i) (chosen e)
+
+-- a word by its first letter, where that is no blank
+pub headed : (w : List ℕ) {letter : ℕ} → byte_at w 0 ≡ letter → (32 ≡ letter → ⊥) → w ≡ letter ∷ drop 1 w
+headed [] e none = absurd (none e)
+headed (x ∷ xs) e none = ap (λ (y : ℕ). y ∷ xs) e
