@@ -35,7 +35,7 @@ fn lend(post: Post, buffer: Buffer, n: usize) -> Post
     }
 }
 
-// What is kept of a session has a name of its own before it is given away, here and below: so the record is copied whole, and not field by field.
+// A session has a name of its own before it is given away, here and below: a named record is copied whole, a field of another one field by field.
 fn act(what: Act, post: Post, number: usize, given: &[u8], out: &mut [u8], text: &mut [u8]) -> Done
     ensures { Is (act_told post (acting post what number given.now out.old) text.old) result text.new × (out.new ≡ (acting post what number given.now out.old).bytes) }
 {
